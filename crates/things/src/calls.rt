@@ -1,0 +1,4 @@
+// The calls, a method each.
+mod both;
+mod rows;
+mod tables;

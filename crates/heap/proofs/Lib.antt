@@ -1,0 +1,13 @@
+mod Shapes
+mod Facts
+mod Focus
+mod HeldCount
+mod Elements
+mod OpenHeap
+mod OneBlock
+mod Grounds
+mod Allocator
+mod FreeList
+mod Options
+mod EmptyHeap
+mod Lits

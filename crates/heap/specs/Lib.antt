@@ -1,0 +1,3 @@
+pub mod Owned
+pub mod Sizes
+pub mod FreeList

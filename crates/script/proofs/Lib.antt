@@ -1,0 +1,5 @@
+pub mod Tables
+pub mod Cuts
+pub mod Figures
+pub mod Texts
+pub mod Returns

@@ -1,0 +1,4 @@
+pub mod Lines
+pub mod Parts
+pub mod Replies
+pub mod Back

@@ -4,7 +4,9 @@
     account.py SCRIPT              prints the answers; `?` for what depends on the trees (held, and a call that may be full)
     account.py SCRIPT OUTPUT       holds what the office printed to the rules, line by line
 
-    --built NAMES   the calls that are built, by commas (default: all of them); the others are answered `no 9`
+    --built NAMES   the calls that are built, by commas (default: those of the file `built` beside this one);
+                    the others are answered `no 9`
+    --scarce        any block may be refused at any time
     --quiet         print nothing but the verdict
 
 A line `?` is held to what the rules leave open: `held n` to the bound on blocks, a call during which a block may
@@ -12,6 +14,7 @@ have been refused (after `refuse`, under `room`) to `full`, with nothing changed
 """
 import argparse
 import bisect
+import os
 import sys
 
 CALLS = {  # name: kinds of its numbers; n and m are names
@@ -228,8 +231,8 @@ class Shelf:
 class Office:
     """What is answered to each line; where the rules leave it open, what was told decides."""
 
-    def __init__(self, built):
-        self.built, self.shelf = built, Shelf()
+    def __init__(self, built, scarce=False):
+        self.built, self.scarce, self.shelf = built, scarce, Shelf()
         self.refuse, self.room, self.line = 0, 0, 0
 
     def turn(self, text, told):
@@ -247,7 +250,7 @@ class Office:
         if name == "room":
             self.room = numbers[0]
             return None
-        may_be_refused = (self.refuse or self.room) and name in MAY_FILL
+        may_be_refused = (self.refuse or self.room or self.scarce) and name in MAY_FILL
         self.refuse = 0
         if name not in self.built:
             return "no 9"
@@ -277,15 +280,24 @@ def lines_of(data):
     return parts[:-1] if parts[-1] == b"" else parts
 
 
+def built_calls(names):
+    if names is None:
+        names = open(os.path.join(os.path.dirname(os.path.abspath(__file__)), "built"), encoding="ascii").read()
+    built = set(names.replace(",", " ").split())
+    if built - set(CALLS):
+        sys.exit("no such call: %s" % ", ".join(sorted(built - set(CALLS))))
+    return built
+
+
 def main():
     p = argparse.ArgumentParser()
     p.add_argument("script")
     p.add_argument("output", nargs="?")
-    p.add_argument("--built", default=",".join(CALLS))
+    p.add_argument("--built")
+    p.add_argument("--scarce", action="store_true")
     p.add_argument("--quiet", action="store_true")
     o = p.parse_args()
-    built = {b for b in o.built.split(",") if b}
-    office = Office(built)
+    office = Office(built_calls(o.built), o.scarce)
     script = lines_of(open(o.script, "rb").read())
     told = open(o.output, encoding="ascii").read().split("\n")[:-1] if o.output else None
     at = wrong = 0

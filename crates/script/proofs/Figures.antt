@@ -3,7 +3,7 @@ use mathlib.Core.Path.{_≡_, refl, sym, ap}
 use mathlib.Core.Logic.{_⊎_, inl, inr}
 use mathlib.Core.Bool.{Bool, true, false, cond, _&&_}
 use mathlib.Core.List.{List, [], _∷_}
-use Prim.Native.Nat.{ℕ, _+_, _^_, _<_}
+use Prim.Native.Nat.{ℕ, _^_, _<_}
 use native.Mathlib.Omega.{arith}
 use borrow.Author.Tests.{clash}
 use lib.Dec.{ltb}
@@ -19,7 +19,7 @@ use Rattle.std.specs.Results.{okPart}
 use Rattle.std.specs.shelf.Text.{allDigits}
 use Rattle.std.proofs.shelf.Numerals.{Numerals, numerals-by-value, tells-allDigits, parse-plain, not-in-digits}
 use Rattle.std.proofs.shelf.Ways.{decides-and, decides-ltb}
-use Rattle.script.specs.Lines.{words, number, numbers, both, meant, found, table}
+use Rattle.script.specs.Lines.{words, number, numbers, both, meant}
 use Rattle.script.specs.Parts.{Reads}
 use Rattle.script.proofs.Cuts.{Whole, words-one, Several, one-or-several}
 

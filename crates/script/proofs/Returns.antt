@@ -9,8 +9,7 @@ use borrow.Author.Tests.{clash, eqb-false, lt-ltb}
 use lib.Chars.{codes}
 use lib.Dec.{eqb}
 use lib.ListN.{length}
-use Rattle.std.specs.declared.option.Option.{Option}
-use Rattle.std.specs.declared.option.Option.the-variants.{None, Some}
+use Rattle.std.specs.declared.option.Option.the-variants.{Some}
 use Rattle.std.specs.Reads.{value}
 use Rattle.std.specs.Written.{decimal}
 use Rattle.std.specs.shelf.Lists.{All}
@@ -19,8 +18,8 @@ use Rattle.std.proofs.shelf.Decimals.{digits-decimal, value-decimal, decimal-so
 use Rattle.things.specs.declared.Op.the-variants.{Row, Table, Free, Length, At, Set, Insert, Delete, Split, Join, Put, Get, Drop, Least, Count, Nth, Cut, Merge}
 use Rattle.script.specs.declared.line.Line.{Line}
 use Rattle.script.specs.declared.line.Line.the-variants.{Call, Refuse, Room, Held}
-use Rattle.script.specs.Lines.{words, number, numbers, both, found, table, meant, asked, lineOf}
-use Rattle.script.specs.Back.{spaced, textOfLine, Name, Word, InRange, ReadsBack}
+use Rattle.script.specs.Lines.{words, number, numbers, found, table, meant, asked, lineOf}
+use Rattle.script.specs.Back.{spaced, Name, Word, ReadsBack}
 use Rattle.script.proofs.Cuts.{Whole, words-one, words-cut}
 use Rattle.script.proofs.Figures.{own, digits-whole}
 

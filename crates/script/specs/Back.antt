@@ -6,7 +6,6 @@ use Prim.Native.String.{String}
 use lib.Chars.{codes}
 use Rattle.std.specs.declared.option.Option.the-variants.{Some}
 use Rattle.std.specs.Written.{decimal}
-use Rattle.things.specs.declared.Op.{Op}
 use Rattle.things.specs.declared.Op.the-variants.{Row, Table, Free, Length, At, Set, Insert, Delete, Split, Join, Put, Get, Drop, Least, Count, Nth, Cut, Merge}
 use Rattle.script.specs.declared.line.Line.{Line}
 use Rattle.script.specs.declared.line.Line.the-variants.{Call, Refuse, Room, Held}

@@ -11,7 +11,6 @@ use Rattle.std.specs.declared.option.Option.{Option}
 use Rattle.std.specs.declared.option.Option.the-variants.{None, Some}
 use Rattle.std.specs.Reads.{value}
 use Rattle.std.specs.shelf.Text.{allDigits, sameBytes}
-use Rattle.things.specs.declared.Op.{Op}
 use Rattle.things.specs.declared.Op.the-variants.{Row, Table, Free, Length, At, Set, Insert, Delete, Split, Join, Put, Get, Drop, Least, Count, Nth, Cut, Merge}
 use Rattle.script.specs.declared.line.Line.{Line}
 use Rattle.script.specs.declared.line.Line.the-variants.{Call, Refuse, Room, Held}

@@ -3,7 +3,6 @@ use mathlib.Core.List.{List, _++_}
 use Prim.Native.Nat.{ℕ}
 use lib.Chars.{codes}
 use Rattle.std.specs.Written.{decimal}
-use Rattle.things.specs.declared.Answer.{Answer}
 use Rattle.things.specs.declared.Answer.the-variants.{Done, Word, Pair, No, Full}
 use Rattle.script.specs.declared.reply.Reply.{Reply}
 use Rattle.script.specs.declared.reply.Reply.the-variants.{Told, Held, NotALine}

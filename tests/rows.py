@@ -2,8 +2,9 @@
 """Writes the office's script: the rows of calls A to H, and lines that are none.
 
     rows.py            all of it
-    rows.py A B        some of them; L for the lines that are none
+    rows.py A B        some of them; W a long row, R blocks refused at each split, L lines that are none
 """
+import random
 import sys
 
 
@@ -106,6 +107,48 @@ def row_h():
     yield "held"
 
 
+def row_long():
+    """A row of 20,000 words, built at the front, at the end and at random places, and read back whole."""
+    n, third, r = 20, 7000, random.Random(20)
+    yield "row %d" % n
+    for x in range(third):
+        yield "insert %d 0 %d" % (n, x)
+    for x in range(third, 2 * third):
+        yield "insert %d %d %d" % (n, x, x)
+    for x in range(2 * third, 20000):
+        yield "insert %d %d %d" % (n, r.randrange(x + 1), x)
+    yield "held"
+    yield "insert %d 20001 1" % n
+    for i in range(20000):
+        yield "at %d %d" % (n, i)
+    yield "at %d 20000" % n
+    for i in range(0, 20000, 997):
+        yield "set %d %d %d" % (n, i, i + 5)
+        yield "at %d %d" % (n, i)
+    yield from ["set %d 20000 1" % n, "length %d" % n, "free %d" % n, "length %d" % n, "held"]
+
+
+def row_refused():
+    """The k-th block is refused at each insertion, so at each split of a leaf, a node and the root; then little room."""
+    n, r = 21, random.Random(21)
+    yield "row %d" % n
+    for x in range(2600):
+        for k in (1, 2, 3):
+            yield "refuse %d" % k
+            yield "insert %d %d %d" % (n, 0 if x < 1300 else r.randrange(x), 10 * x + k)
+        if x % 20 == 0:
+            yield from ["held", "length %d" % n, "at %d %d" % (n, r.randrange(x + 1))]
+    for i in range(0, 2600, 7):
+        yield "at %d %d" % (n, i)
+    yield from ["held", "free %d" % n, "held", "row %d" % n]
+    for room in (1, 2, 3, 4, 6):
+        yield "room %d" % room
+        for x in range(70):
+            yield "insert %d %d %d" % (n, x % (1 + x), x)
+        yield from ["held", "length %d" % n, "at %d 61" % n]
+    yield from ["room 0", "insert %d 0 1" % n, "length %d" % n, "free %d" % n, "held"]
+
+
 def lines():
     """Lines that are none, and lines that only just are."""
     yield from [
@@ -122,7 +165,7 @@ def lines():
     ]
 
 
-PARTS = {"A": row_a, "B": row_b, "C": row_c, "D": row_d, "E": row_e, "F": row_f, "G": row_g, "H": row_h, "L": lines}
+PARTS = {"A": row_a, "B": row_b, "C": row_c, "D": row_d, "E": row_e, "F": row_f, "G": row_g, "H": row_h, "W": row_long, "R": row_refused, "L": lines}
 
 if __name__ == "__main__":
     for name in sys.argv[1:] or PARTS:

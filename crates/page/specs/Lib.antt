@@ -1,0 +1,5 @@
+pub mod Entries
+pub mod Kinds
+pub mod Layout
+pub mod Sizes
+pub mod View

@@ -20,6 +20,7 @@ pub mod Parts
 pub mod Places
 pub mod Counting
 pub mod Imaging
+pub mod Low
 pub mod Turns
 pub mod Keying
 pub mod KeyPaths

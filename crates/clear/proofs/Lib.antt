@@ -1,0 +1,5 @@
+pub mod Stacks
+pub mod Words
+pub mod Low
+pub mod Clearing
+pub mod Going

@@ -1,0 +1,4 @@
+pub mod Given
+pub mod Sizes
+pub mod Trail
+pub mod Visits

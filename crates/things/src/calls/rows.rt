@@ -5,8 +5,16 @@ ghost use Rattle.things.specs.Reasons.{toldDone, toldWord};
 ghost use Rattle.things.specs.State.{Ready, Served};
 use crate::Blocks;
 use crate::Op;
+use crate::bridge::Ours;
+use crate::bridge::OursStore;
 use crate::reason::Reason;
+use crate::state::EMPTY;
+use crate::state::Slot;
 use crate::state::Things;
+use page::Rows;
+use page::kind::row::RowsKind;
+use seek::items;
+use seek::size;
 
 impl Things {
     // An empty row under n.
@@ -14,7 +22,9 @@ impl Things {
         requires { ⌜ Ready 16384 64 (now self) (ground (now b)) ⌝ }
         ensures { λ r. ⌜ Served (Op.Row n) (now (self .entry)) (ground (now (b .entry))) (toldDone r) (now (self .exit)) (ground (now (b .exit))) ⌝ }
     {
-        Err(Reason::NotBuilt)
+        self.find_vacant(n)?;
+        self.lay(n, Slot::Row(EMPTY));
+        Ok(())
     }
 
     // The word at i.
@@ -22,7 +32,11 @@ impl Things {
         requires { ⌜ Ready 16384 64 (now self) (ground (now b)) ⌝ }
         ensures { λ r. ⌜ Served (Op.At n i) (now (self .entry)) (ground (now (b .entry))) (toldWord r) (now (self .exit)) (ground (now (b .exit))) ⌝ }
     {
-        Err(Reason::NotBuilt)
+        let t = self.find_row(n)?;
+        if i >= size::length::<Rows, Ours, B>(b, t) {
+            return Err(Reason::NoPlace);
+        }
+        Ok(items::at::<Rows, Ours, B>(b, t, i))
     }
 
     // The word at i is x.
@@ -30,7 +44,12 @@ impl Things {
         requires { ⌜ Ready 16384 64 (now self) (ground (now b)) ⌝ }
         ensures { λ r. ⌜ Served (Op.Set n i x) (now (self .entry)) (ground (now (b .entry))) (toldDone r) (now (self .exit)) (ground (now (b .exit))) ⌝ }
     {
-        Err(Reason::NotBuilt)
+        let t = self.find_row(n)?;
+        if i >= size::length::<Rows, Ours, B>(b, t) {
+            return Err(Reason::NoPlace);
+        }
+        items::set::<Rows, Ours, B>(b, t, i, x);
+        Ok(())
     }
 
     // x is at i; what stood there and behind it is one further.

@@ -1,0 +1,9 @@
+pub mod Readings
+pub mod Imaged
+pub mod Tops
+pub mod Branches
+pub mod Going
+pub mod Landing
+pub mod Exchange
+pub mod Updating
+pub mod Standing

@@ -25,6 +25,7 @@ use Rattle.tree.proofs.Places.{down}
 use Rattle.seek.specs.declared.path.Path.{Path as Nodes}
 use Rattle.seek.specs.Asks.{descendAsks}
 use Rattle.seek.specs.Descent.{more, nodes, runOn, nodesFull, Descended}
+use Rattle.seek.specs.Sizes.{topLevel, longest}
 use Rattle.seek.proofs.Branches.{branches-none, branches-push}
 use Rattle.tree.proofs.Low.{level-low}
 use Rattle.seek.proofs.Readings.{reading-none, reading-asked, reading-then, reading-blocks, reading-left, reading-stored}
@@ -54,7 +55,7 @@ module _ {E : Type 0} (K : Layout E) where
     pub place : Down K (m .block) H r p (more gap) level b (nodes ns) rest
     pub some : 0 < many K level (m .block b)
     pub deep : ns .depth + level ≡ H
-    pub shallow : H ≤ 6
+    pub shallow : H ≤ topLevel
     pub read : Reading (ns .depth * pageAsks) m m′
     pub run : full ≡ nodesFull K (m .block) (nodes ns)
     pub short : full ≤ ns .depth
@@ -93,7 +94,7 @@ module _ {E : Type 0} (K : Layout E) where
     pub going-stored : Stored (m′ .block) b
     going-stored = reading-stored _ m m′ (z .read) b (sound-stored level f b (z .place .sound))
 
-    pub going-short : full < 8
+    pub going-short : full < longest
     going-short = omega (arith, z .short, z .deep, z .shallow)
 
     pub going-depth : ns .depth ≤ 6

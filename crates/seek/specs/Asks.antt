@@ -2,10 +2,7 @@
 -- Assumes nothing.
 use Prim.Native.Nat.{ℕ, _+_, _*_}
 use Rattle.tree.specs.Pages.{pageAsks}
-
--- a root has this level at most, leaves having level 0
-abbrev pub topLevel : ℕ
-topLevel = 6
+use Rattle.seek.specs.Sizes.{topLevel}
 
 -- the root's page
 abbrev pub lengthAsks : ℕ

@@ -1,3 +1,4 @@
+pub mod Sizes
 pub mod Asks
 pub mod Descent
 pub mod Items

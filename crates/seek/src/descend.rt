@@ -8,6 +8,7 @@ ghost use Rattle.page.specs.View.{entries};
 ghost use Rattle.tree.specs.Trees.{holds, Lies};
 ghost use Rattle.seek.specs.Asks.{descendAsks};
 ghost use Rattle.seek.specs.Descent.{more, runOn, Descended};
+ghost use Rattle.seek.specs.Sizes.{longest};
 use crate::nodes::load_node;
 use crate::path::Path;
 use crate::reached::Reached;
@@ -36,7 +37,7 @@ fn choose<K: Kind>(page: &Page<K::Node>, at: u64, gap: bool) -> Place
 
 // A page with n entries comes behind a run of full pages.
 fn run_on(run: u32, n: usize, most: usize) -> u32
-    requires { ⌜ run < 8 ⌝ }
+    requires { ⌜ run < longest ⌝ }
     ensures { λ r. ⌜ r ≡ runOn run n most ⌝ }
 {
     if n == most { run + 1 } else { 0 }

@@ -63,7 +63,17 @@ impl Things {
         requires { ⌜ Ready 16384 64 (now self) (ground (now b)) ⌝ }
         ensures { λ r. ⌜ Served (Op.Insert n i x) (now (self .entry)) (ground (now (b .entry))) (toldDone r) (now (self .exit)) (ground (now (b .exit))) ⌝ }
     {
-        Err(Reason::NotBuilt)
+        let t = self.find_row(n)?;
+        if i > size::length::<Rows, Ours, B>(b, t) {
+            return Err(Reason::NoPlace);
+        }
+        match grow::insert::insert::<Rows, Ours, B>(b, t, i, x) {
+            Ok(u) => {
+                self.lay(n, Slot::Row(u));
+                Ok(())
+            }
+            Err(_) => Err(Reason::NoRoom),
+        }
     }
 
     // The word at i goes, and is told; what stood behind it is one nearer.

@@ -1,0 +1,6 @@
+pub mod Settling
+pub mod Climbing
+pub mod Crowning
+pub mod Inserting
+pub mod Planting
+pub mod Course

@@ -1,0 +1,5 @@
+pub mod Asks
+pub mod Settle
+pub mod Rises
+pub mod Crown
+pub mod Inserted

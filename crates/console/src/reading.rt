@@ -19,6 +19,12 @@ use things::Blocks;
 use things::Bounds;
 use things::Things;
 
+// Most lines, and any reply, are shorter; a longer line is given more memory.
+const LINE: usize = 128;
+
+// Replies of so many bytes are written, whether more lines are at hand or not.
+const REPLIES: usize = 4096;
+
 // The line without the newline at its end.
 fn trimmed(line: &[u8]) -> &[u8] {
     match line {
@@ -27,16 +33,16 @@ fn trimmed(line: &[u8]) -> &[u8] {
     }
 }
 
-// Replies go out together, but none is kept back while the next line is waited for.
+// Replies go out together, but none is kept back while the next line is waited for. What memory this needs is had at the start.
 pub fn run<B: Blocks + Bounds>(rt: &LibcRuntime, s: &mut Things, b: &mut Ration<B>) -> io::Result<()>
     requires { ⌜ Ready (now s) (groundOf (B·Blocks .ground) (now b)) ⌝ }
     ensures { λ _. ⌜ Ready (now (s .exit)) (groundOf (B·Blocks .ground) (now (b .exit))) ⌝ }
 {
     let mut input = BufReader::new(rt.stdin());
-    let mut line = Vec::new(rt.alloc());
-    let mut out = String::new(rt.alloc());
+    let mut line = Vec::with_capacity(rt.alloc(), LINE)?;
+    let mut out = String::with_capacity(rt.alloc(), REPLIES + LINE)?;
     for number in 1..u64::MAX {
-        if !input.buffer().contains(&b'\n') {
+        if out.len() > REPLIES || !input.buffer().contains(&b'\n') {
             rt.stdout().write_all(out.as_bytes())?;
             out.clear();
         }

@@ -81,7 +81,13 @@ impl Things {
         requires { ⌜ Ready 16384 64 (now self) (ground (now b)) ⌝ }
         ensures { λ r. ⌜ Served (Op.Delete n i) (now (self .entry)) (ground (now (b .entry))) (toldWord r) (now (self .exit)) (ground (now (b .exit))) ⌝ }
     {
-        Err(Reason::NotBuilt)
+        let t = self.find_row(n)?;
+        if i >= size::length::<Rows, Ours, B>(b, t) {
+            return Err(Reason::NoPlace);
+        }
+        let (u, x) = shrink::delete::delete::<Rows, Ours, B>(b, t, i);
+        self.lay(n, Slot::Row(u));
+        Ok(x)
     }
 
     // The words from i on are a row under m.

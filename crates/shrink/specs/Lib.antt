@@ -1,0 +1,6 @@
+pub mod Asks
+pub mod Putting
+pub mod Sharing
+pub mod Shrinking
+pub mod Turning
+pub mod Deleting

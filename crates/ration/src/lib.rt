@@ -57,6 +57,13 @@ impl<B> Ration<B> {
         self.limit = n;
     }
 
+    // How often it may still be asked.
+    pub fn asks_left(&self) -> u64
+        ensures { λ r. ⌜ r ≡ now (self .entry) .left ⌝ }
+    {
+        self.left
+    }
+
     // The ground below, as it stands.
     pub fn into_inner(self) -> B
         ensures { λ r. ⌜ r ≡ self .inner ⌝ }

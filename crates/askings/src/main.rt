@@ -56,7 +56,14 @@ fn inserts<B: Blocks + Bounds>(s: &mut Things, b: &mut Ration<B>) -> Tally
 }
 
 // `count` words go, `step` places apart, from `start` on; those that go are `step` apart in what is left.
-fn deletes<B: Blocks + Bounds>(s: &mut Things, b: &mut Ration<B>, start: u64, step: u64, count: u64, tally: &mut Tally)
+fn deletes<B: Blocks + Bounds>(
+    s: &mut Things,
+    b: &mut Ration<B>,
+    start: u64,
+    step: u64,
+    count: u64,
+    tally: &mut Tally,
+)
     requires { ⌜ Ready (now s) (groundOf (B·Blocks .ground) (now b)) ⌝ }
     ensures { λ _. ⌜ Ready (now (s .exit)) (groundOf (B·Blocks .ground) (now (b .exit))) ⌝ }
 {

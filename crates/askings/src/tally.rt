@@ -10,7 +10,11 @@ pub struct Tally {
 
 impl Tally {
     pub fn new() -> Tally {
-        Tally { calls: 0, asks: 0, most: 0 }
+        Tally {
+            calls: 0,
+            asks: 0,
+            most: 0,
+        }
     }
 
     pub fn note(&mut self, asks: u64) {

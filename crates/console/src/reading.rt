@@ -34,7 +34,11 @@ fn trimmed(line: &[u8]) -> &[u8] {
 }
 
 // Replies go out together, but none is kept back while the next line is waited for. What memory this needs is had at the start.
-pub fn run<B: Blocks + Bounds>(rt: &LibcRuntime, s: &mut Things, b: &mut Ration<B>) -> io::Result<()>
+pub fn run<B: Blocks + Bounds>(
+    rt: &LibcRuntime,
+    s: &mut Things,
+    b: &mut Ration<B>,
+) -> io::Result<()>
     requires { ⌜ Ready (now s) (groundOf (B·Blocks .ground) (now b)) ⌝ }
     ensures { λ _. ⌜ Ready (now (s .exit)) (groundOf (B·Blocks .ground) (now (b .exit))) ⌝ }
 {

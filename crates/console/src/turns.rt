@@ -43,7 +43,12 @@ pub fn ask<B: Blocks + Bounds>(s: &mut Things, b: &mut B, o: Op) -> Answer
 }
 
 // What a line comes to. `number` is the line's, counted from 1.
-pub fn reply<B: Blocks + Bounds>(s: &mut Things, b: &mut Ration<B>, text: &[u8], number: u64) -> Option<Reply>
+pub fn reply<B: Blocks + Bounds>(
+    s: &mut Things,
+    b: &mut Ration<B>,
+    text: &[u8],
+    number: u64,
+) -> Option<Reply>
     requires { ⌜ Ready (now s) (groundOf (B·Blocks .ground) (now b)) ⌝ }
     ensures ready { λ _. ⌜ Ready (now (s .exit)) (groundOf (B·Blocks .ground) (now (b .exit))) ⌝ }
     ensures replied { λ r. ⌜ Replied (lineOf (now (text .entry))) number (now (s .entry)) (groundOf (B·Blocks .ground) (now (b .entry))) r (now (s .exit)) (groundOf (B·Blocks .ground) (now (b .exit))) ⌝ }

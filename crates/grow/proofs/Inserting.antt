@@ -84,17 +84,18 @@ module _ {E : Type 0} (K : Layout E) (f : Mem) where
   pub run : (ws : List Branch) → Run ws
   unfolding nodesFull needed
   run [] = record { short = omega arith; whole = λ e. refl; part = λ l. absurd (omega arith) }
-  run (w ∷ ws) = let z = run ws in elim (ℕ-discrete (length (K .children (f (w .block)))) (K .nodeCap))
-    [ yes e ↦ record {
-        short = rw (eq-eqb _ _ e) (omega (arith, z .short));
-        whole = rw (eq-eqb _ _ e) (λ q. omega (arith, z .whole (omega arith)));
-        part = rw (eq-eqb _ _ e) (λ q. omega (arith, z .part (omega arith)));
-      }
+  run (w ∷ ws) = let z = run ws in elim (ℕ-discrete (length (K .children (f (w .block)))) (K .nodeCap)) [
+    | yes e ↦ record {
+      short = rw (eq-eqb _ _ e) (omega (arith, z .short));
+      whole = rw (eq-eqb _ _ e) (λ q. omega (arith, z .whole (omega arith)));
+      part = rw (eq-eqb _ _ e) (λ q. omega (arith, z .part (omega arith)));
+    }
     | no e ↦ record {
-        short = rw (ne-eqb _ _ e) (omega arith);
-        whole = rw (ne-eqb _ _ e) (λ q. absurd (omega arith));
-        part = rw (ne-eqb _ _ e) (λ q. refl);
-      } ]
+      short = rw (ne-eqb _ _ e) (omega arith);
+      whole = rw (ne-eqb _ _ e) (λ q. absurd (omega arith));
+      part = rw (ne-eqb _ _ e) (λ q. refl);
+    }
+  ]
 
   module _ (b : ℕ) (ws : List Branch) (n full depth : ℕ) (en : n ≡ blocksFor full depth) (ef : full ≡ fullRun K f b ws) (ed : length ws ≡ depth) where
     few-full : full ≤ depth + 1

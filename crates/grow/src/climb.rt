@@ -31,7 +31,14 @@ fn put<K: Kind>(page: &mut Page<K::Node>, place: usize, one: Child, two: Option<
 }
 
 // What came up goes into the node at block b, for the entry at a place: what stands above the node then.
-fn rise<K: Kind, W: Store<M>, M>(m: &mut M, b: u32, place: u32, one: Child, two: Option<Child>, reserve: &mut Reserve) -> (Child, Option<Child>)
+fn rise<K: Kind, W: Store<M>, M>(
+    m: &mut M,
+    b: u32,
+    place: u32,
+    one: Child,
+    two: Option<Child>,
+    reserve: &mut Reserve,
+) -> (Child, Option<Child>)
     requires asks { ⌜ turnAsks ≤ memory (now m) .left ⌝ }
     requires ready { ⌜ Ready (K·Kind .layout) (Node·Codec .valid) b place (memory (now m)) (now reserve) one two ⌝ }
     ensures { λ r. ⌜ Settled (K·Kind .layout .children) (entryOf (K·Kind .layout)) (K·Kind .layout .nodeCap) turnAsks b (placed (K·Kind .layout .children (memory (now (m .entry)) .block b)) place one two) (memory (now (m .entry))) (now (reserve .entry)) (r .0) (r .1) (memory (now (m .exit))) (now (reserve .exit)) ⌝ }
@@ -42,7 +49,15 @@ fn rise<K: Kind, W: Store<M>, M>(m: &mut M, b: u32, place: u32, one: Child, two:
 }
 
 // Up all nodes of a path: its first `depth` nodes from the root on, and the child taken in each.
-pub fn climb<K: Kind, W: Store<M>, M>(m: &mut M, blocks: &[u32; 8], places: &[u32; 8], depth: u32, first: Child, second: Option<Child>, reserve: &mut Reserve) -> (Child, Option<Child>)
+pub fn climb<K: Kind, W: Store<M>, M>(
+    m: &mut M,
+    blocks: &[u32; 8],
+    places: &[u32; 8],
+    depth: u32,
+    first: Child,
+    second: Option<Child>,
+    reserve: &mut Reserve,
+) -> (Child, Option<Child>)
     requires deep { ⌜ depth ≤ 8 ⌝ }
     requires asks { ⌜ depth * turnAsks ≤ memory (now m) .left ⌝ }
     requires rises { ⌜ CanRise (K·Kind .layout) (branches (now blocks) (now places) depth) (memory (now m)) (now reserve) first second ⌝ }

@@ -51,7 +51,12 @@ fn blocks_for(full: u32, depth: u32) -> usize
 }
 
 // Into a tree that has a root.
-fn insert_below<K: Kind, W: Store<M>, M>(m: &mut M, t: Tree, at: u64, x: K::Item) -> Result<Tree, NoRoom>
+fn insert_below<K: Kind, W: Store<M>, M>(
+    m: &mut M,
+    t: Tree,
+    at: u64,
+    x: K::Item,
+) -> Result<Tree, NoRoom>
     requires lies { ⌜ Lies (K·Kind .layout) (memory (now m)) t ⌝ }
     requires tall { ⌜ 0 < t .height ⌝ }
     requires place { ⌜ at ≤ length (holds (K·Kind .layout) (memory (now m) .block) t) ⌝ }
@@ -63,14 +68,27 @@ fn insert_below<K: Kind, W: Store<M>, M>(m: &mut M, t: Tree, at: u64, x: K::Item
     let path = reached.path;
     let mut stock = reserve::<W, M>(m, blocks_for(reached.full, path.depth))?;
     let split = insert_leaf::<K, W, M>(m, reached.leaf, reached.at as usize, x, &mut stock);
-    let top = climb::<K, W, M>(m, &path.blocks, &path.places, path.depth, split.0, split.1, &mut stock);
+    let top = climb::<K, W, M>(
+        m,
+        &path.blocks,
+        &path.places,
+        path.depth,
+        split.0,
+        split.1,
+        &mut stock,
+    );
     let tree = new_root::<K, W, M>(m, t.height, top.0, top.1, &mut stock);
     give_all::<W, M>(stock, m);
     Ok(tree)
 }
 
 // With `at` items before it. Where the memory refuses a block, all is as it was.
-pub fn insert<K: Kind, W: Store<M>, M>(m: &mut M, t: Tree, at: u64, x: K::Item) -> Result<Tree, NoRoom>
+pub fn insert<K: Kind, W: Store<M>, M>(
+    m: &mut M,
+    t: Tree,
+    at: u64,
+    x: K::Item,
+) -> Result<Tree, NoRoom>
     requires lies { ⌜ Lies (K·Kind .layout) (memory (now m)) t ⌝ }
     requires place { ⌜ at ≤ length (holds (K·Kind .layout) (memory (now m) .block) t) ⌝ }
     requires asks { ⌜ insertAsks ≤ memory (now m) .left ⌝ }

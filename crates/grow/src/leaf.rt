@@ -17,7 +17,13 @@ use store::Store;
 use store::reserve::Reserve;
 
 // To the place `at` in the leaf at block b: what stands above it then.
-pub fn insert_leaf<K: Kind, W: Store<M>, M>(m: &mut M, b: u32, at: usize, x: K::Item, reserve: &mut Reserve) -> (Child, Option<Child>)
+pub fn insert_leaf<K: Kind, W: Store<M>, M>(
+    m: &mut M,
+    b: u32,
+    at: usize,
+    x: K::Item,
+    reserve: &mut Reserve,
+) -> (Child, Option<Child>)
     requires asks { ⌜ turnAsks ≤ memory (now m) .left ⌝ }
     requires there { ⌜ Stored (memory (now m) .block) b ⌝ }
     requires few { ⌜ length (K·Kind .layout .items (memory (now m) .block b)) ≤ K·Kind .layout .leafCap ⌝ }

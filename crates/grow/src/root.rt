@@ -17,7 +17,12 @@ use tree::pages::store_page;
 use tree::top::Tree;
 
 // A node above two others, in a block of the reserve.
-fn node_above<K: Kind, W: Store<M>, M>(m: &mut M, one: Child, other: Child, reserve: &mut Reserve) -> u32
+fn node_above<K: Kind, W: Store<M>, M>(
+    m: &mut M,
+    one: Child,
+    other: Child,
+    reserve: &mut Reserve,
+) -> u32
     requires asks { ⌜ pageAsks ≤ memory (now m) .left ⌝ }
     requires valid { ⌜ T (Node·Codec .valid one) ⌝ ∗ ⌜ T (Node·Codec .valid other) ⌝ }
     requires some { ⌜ 0 < now reserve .count ⌝ }
@@ -33,7 +38,13 @@ fn node_above<K: Kind, W: Store<M>, M>(m: &mut M, one: Child, other: Child, rese
 }
 
 // What came up is the tree, or stands under a new root.
-pub fn new_root<K: Kind, W: Store<M>, M>(m: &mut M, height: u8, one: Child, two: Option<Child>, reserve: &mut Reserve) -> Tree
+pub fn new_root<K: Kind, W: Store<M>, M>(
+    m: &mut M,
+    height: u8,
+    one: Child,
+    two: Option<Child>,
+    reserve: &mut Reserve,
+) -> Tree
     requires asks { ⌜ pageAsks ≤ memory (now m) .left ⌝ }
     requires low { ⌜ height < 255 ⌝ }
     requires rises { ⌜ CanRise (K·Kind .layout) [] (memory (now m)) (now reserve) one two ⌝ }

@@ -36,7 +36,12 @@ fn halve<C: Codec>(page: &mut Page<C>) -> Page<C>
 }
 
 // Half of the page stays and goes to block b, and the rest to a block of the reserve.
-fn split<C: Codec, W: Store<M>, M>(m: &mut M, b: u32, page: &mut Page<C>, reserve: &mut Reserve) -> Upper<C>
+fn split<C: Codec, W: Store<M>, M>(
+    m: &mut M,
+    b: u32,
+    page: &mut Page<C>,
+    reserve: &mut Reserve,
+) -> Upper<C>
     requires asks { ⌜ settleAsks ≤ memory (now m) .left ⌝ }
     requires there { ⌜ Stored (memory (now m) .block) b ⌝ }
     requires fits { ⌜ (now page .len + 1) / 2 * C·Codec .width ≤ 62 ⌝ }
@@ -56,7 +61,12 @@ fn split<C: Codec, W: Store<M>, M>(m: &mut M, b: u32, page: &mut Page<C>, reserv
 }
 
 // A leaf's page: what stands above it then.
-pub fn settle_leaf<K: Kind, W: Store<M>, M>(m: &mut M, b: u32, mut page: Page<K::Leaf>, reserve: &mut Reserve) -> (Child, Option<Child>)
+pub fn settle_leaf<K: Kind, W: Store<M>, M>(
+    m: &mut M,
+    b: u32,
+    mut page: Page<K::Leaf>,
+    reserve: &mut Reserve,
+) -> (Child, Option<Child>)
     requires asks { ⌜ settleAsks ≤ memory (now m) .left ⌝ }
     requires there { ⌜ Stored (memory (now m) .block) b ⌝ }
     requires some { ⌜ 0 < page .len ⌝ }
@@ -71,11 +81,19 @@ pub fn settle_leaf<K: Kind, W: Store<M>, M>(m: &mut M, b: u32, mut page: Page<K:
         return (leaf_entry::<K>(b as u64, &page), None);
     }
     let upper = split::<K::Leaf, W, M>(m, b, &mut page, reserve);
-    (leaf_entry::<K>(b as u64, &page), Some(leaf_entry::<K>(upper.block as u64, &upper.page)))
+    (
+        leaf_entry::<K>(b as u64, &page),
+        Some(leaf_entry::<K>(upper.block as u64, &upper.page)),
+    )
 }
 
 // A node's page: what stands above it then.
-pub fn settle_node<K: Kind, W: Store<M>, M>(m: &mut M, b: u32, mut page: Page<K::Node>, reserve: &mut Reserve) -> (Child, Option<Child>)
+pub fn settle_node<K: Kind, W: Store<M>, M>(
+    m: &mut M,
+    b: u32,
+    mut page: Page<K::Node>,
+    reserve: &mut Reserve,
+) -> (Child, Option<Child>)
     requires asks { ⌜ settleAsks ≤ memory (now m) .left ⌝ }
     requires there { ⌜ Stored (memory (now m) .block) b ⌝ }
     requires some { ⌜ 0 < page .len ⌝ }
@@ -91,5 +109,8 @@ pub fn settle_node<K: Kind, W: Store<M>, M>(m: &mut M, b: u32, mut page: Page<K:
         return (node_entry::<K>(b as u64, &page), None);
     }
     let upper = split::<K::Node, W, M>(m, b, &mut page, reserve);
-    (node_entry::<K>(b as u64, &page), Some(node_entry::<K>(upper.block as u64, &upper.page)))
+    (
+        node_entry::<K>(b as u64, &page),
+        Some(node_entry::<K>(upper.block as u64, &upper.page)),
+    )
 }

@@ -119,8 +119,7 @@ module _ {E : Type 0} (K : Layout E) (k a b : ℕ) (m : Memory) where
     nodes-two xs ys m′ p = shared-of (suc h) _ _ (entryOf K a xs ∷ (entryOf K b ys ∷ [])) m′ (p .ran)
         (repage-nodes K h g (m′ .block) (λ c. 0) (λ c. 0) both (entryOf K a xs ∷ (entryOf K b ys ∷ []))
         (record { fits = node-fits; writes = step-as _ _ _ _ g (m′ .block) (λ c. omega arith) (λ c. omega arith) (p .ran .step) })
-        (rw (append-nil (K .children (m′ .block b)), p .first, p .second) (p .same ∙ sym under-both)))
-        (
+        (rw (append-nil (K .children (m′ .block b)), p .first, p .second) (p .same ∙ sym under-both))) (
           one-node K lw h (m′ .block) a xs (p .there) (p .first) (p .full .0) (p .few .0) (All-left (ChildOk K h (m′ .block)) xs ys ok),
           (one-node K lw h (m′ .block) b ys (p .there′) (p .second) (p .full .1) (p .few .1) (All-right (ChildOk K h (m′ .block)) xs ys ok), tt),
         )

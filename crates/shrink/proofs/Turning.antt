@@ -111,8 +111,8 @@ module _ {E : Type 0} (K : Layout E) (lw : Lawful K) (z : Start E) (h : ℕ) (w 
       subst (λ (x : Memory). Ready K z h (w .block) ws x (take (w .place) kids ++ (k ∷ drop (suc (w .place)) kids))) (sym (r .is))
       (replaced (Some k) v (left K f w) [] [] (right K f w) (k ∷ []) (asked (r .times) m) (r .times) (sym (append-nil (left K f w))) refl
       (ran-as (r .times) _ _ m (asked (r .times) m) (ran-asked (r .times) (uses K h g (v .block)) m) _ _
-        (λ c. omega (arith, ap (λ (b : ℕ). uses K h g b c) (opening.child-is K lw z h w ws m (Some k) v)))
-        (λ c. omega (arith, ap (λ (b : ℕ). uses K h g b c) (v .risen .0))))
+      (λ c. omega (arith, ap (λ (b : ℕ). uses K h g b c) (opening.child-is K lw z h w ws m (Some k) v)))
+      (λ c. omega (arith, ap (λ (b : ℕ). uses K h g b c) (v .risen .0))))
       (ap (λ (b : ℕ). contents K h g b ++ []) (v .risen .0 ∙ opening.child-is K lw z h w ws m (Some k) v))
       (v .risen .1, tt) (omega arith) (omega arith) (omega arith) (omega (arith, r .few)))
 
@@ -227,6 +227,6 @@ module _ {E : Type 0} (K : Layout E) (lw : Lawful K) (z : Start E) (h : ℕ) (w 
           let s : Shared K shareAsks h (at i .block) (at (suc i) .block) (asked (r .times) m) ns m₂ = subst (λ (x : Memory). Shared K shareAsks h (at i .block) (at (suc i) .block) x ns m₂) (r .is) s₁ in
           replaced o v (take i kids) (q .ls) (q .rs) (drop (suc (suc i)) kids) ns m₂ (r .times + shareAsks) (q .lefts-are) (q .rights-are)
           (ran-as (r .times + shareAsks) _ _ m m₂ (ran-then (r .times) shareAsks _ _ _ m (asked (r .times) m) m₂ (ran-asked (r .times) _ m) (s .ran)) _ _
-            (λ c. rw (q .pair) (omega arith)) (λ c. refl))
+          (λ c. rw (q .pair) (omega arith)) (λ c. refl))
           (s .same ∙ rw (q .pair, append-nil (contents K h g (at (suc i) .block))) refl)
           (s .children) (s .some) (omega (arith, s .few, q .one-more)) (omega (arith, s .some, q .one-more)) (omega (arith, r .few))

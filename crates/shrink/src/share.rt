@@ -21,7 +21,12 @@ use tree::pages::load_page;
 use tree::pages::store_page;
 
 // The pages at blocks a and b, neighbours, become one at a, and b is given back; or two that are half full.
-fn even<C: Codec, W: Store<M>, M>(m: &mut M, a: u32, b: u32, most: usize) -> (Page<C>, Option<Page<C>>)
+fn even<C: Codec, W: Store<M>, M>(
+    m: &mut M,
+    a: u32,
+    b: u32,
+    most: usize,
+) -> (Page<C>, Option<Page<C>>)
     requires asks { ⌜ shareAsks ≤ memory (now m) .left ⌝ }
     requires left { ⌜ Stored (memory (now m) .block) a ⌝ }
     requires right { ⌜ Stored (memory (now m) .block) b ⌝ }
@@ -73,7 +78,12 @@ fn share_nodes<K: Kind, W: Store<M>, M>(m: &mut M, a: u32, b: u32) -> (Child, Op
 }
 
 // Of leaves or of nodes.
-pub fn share<K: Kind, W: Store<M>, M>(m: &mut M, leaves: bool, a: u32, b: u32) -> (Child, Option<Child>)
+pub fn share<K: Kind, W: Store<M>, M>(
+    m: &mut M,
+    leaves: bool,
+    a: u32,
+    b: u32,
+) -> (Child, Option<Child>)
     requires asks { ⌜ shareAsks ≤ memory (now m) .left ⌝ }
     requires next { ⌜ ((h : ℕ) × Next (K·Kind .layout) leaves h a b (memory (now m))) ⌝ }
     ensures { λ r. ⌜ ((h : ℕ) → Next (K·Kind .layout) leaves h a b (memory (now (m .entry))) → Shared (K·Kind .layout) shareAsks h a b (memory (now (m .entry))) (oneOrTwo (r .0) (r .1)) (memory (now (m .exit)))) ⌝ }

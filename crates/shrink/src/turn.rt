@@ -46,7 +46,13 @@ fn mend<K: Kind, W: Store<M>, M>(m: &mut M, leaves: bool, page: &mut Page<K::Nod
 }
 
 // The node at `block`, with what is below it put right: the child at `place` changed.
-fn put_right<K: Kind, W: Store<M>, M>(m: &mut M, leaves: bool, block: u32, place: u32, risen: Option<Child>) -> Page<K::Node>
+fn put_right<K: Kind, W: Store<M>, M>(
+    m: &mut M,
+    leaves: bool,
+    block: u32,
+    place: u32,
+    risen: Option<Child>,
+) -> Page<K::Node>
     requires { ⌜ ((s : Site K·Item) × Below (K·Kind .layout) s leaves block place (memory (now m)) risen) ⌝ }
     ensures { λ r. ⌜ ((s : Site K·Item) → Below (K·Kind .layout) s leaves block place (memory (now (m .entry))) risen → Ready (K·Kind .layout) (s .start) (s .level) block (s .above) (memory (now (m .exit))) (entries (Node·Codec .width) (Node·Codec .decode) r)) ⌝ }
 {
@@ -64,7 +70,13 @@ fn put_right<K: Kind, W: Store<M>, M>(m: &mut M, leaves: bool, block: u32, place
 }
 
 // What stands above the node then, if it is full enough.
-pub fn turn<K: Kind, W: Store<M>, M>(m: &mut M, leaves: bool, block: u32, place: u32, risen: Option<Child>) -> Option<Child>
+pub fn turn<K: Kind, W: Store<M>, M>(
+    m: &mut M,
+    leaves: bool,
+    block: u32,
+    place: u32,
+    risen: Option<Child>,
+) -> Option<Child>
     requires { ⌜ ((s : Site K·Item) × Below (K·Kind .layout) s leaves block place (memory (now m)) risen) ⌝ }
     ensures { λ r. ⌜ ((s : Site K·Item) → Below (K·Kind .layout) s leaves block place (memory (now (m .entry))) risen → Climbing (K·Kind .layout) (s .start) (suc (s .level)) (s .above) (memory (now (m .exit))) r) ⌝ }
 {

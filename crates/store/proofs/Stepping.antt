@@ -14,17 +14,19 @@ use Rattle.store.proofs.Sums.{hit-same, hit-other, sumTo-one}
 
 module _ (u v w : ℕ → ℕ) (f g h : Mem) where
   pub step-then : Step u v f g → Step v w g h → Step u w f h
-  step-then p q = record
-    { balanced = λ c. omega (arith, p .balanced c, q .balanced c)
-    ; leaves = λ c n.
+  step-then p q = record {
+    balanced = λ c. omega (arith, p .balanced c, q .balanced c);
+    leaves = λ c n.
         let e : g c ≡ f c = p .leaves c n in
-        q .leaves c (omega (arith, p .balanced c, ap some e)) ∙ e }
+        q .leaves c (omega (arith, p .balanced c, ap some e)) ∙ e;
+  }
 
 module _ (u u′ v : ℕ → ℕ) (f g : Mem) (s : Step u u′ f g) where
   pub step-beside : Step (λ c. u c + v c) (λ c. u′ c + v c) f g
-  step-beside = record
-    { balanced = λ c. omega (arith, s .balanced c)
-    ; leaves = λ c n. s .leaves c (omega arith) }
+  step-beside = record {
+    balanced = λ c. omega (arith, s .balanced c);
+    leaves = λ c n. s .leaves c (omega arith);
+  }
 
   -- what fits beside is the same, and fits beside afterwards
   pub step-same : ((c : ℕ) → u c + v c ≤ held f c) → Same v f g
@@ -38,9 +40,10 @@ module _ (u u′ v : ℕ → ℕ) (f g : Mem) (s : Step u u′ f g) where
   step-account a c = omega (arith, a c, s .balanced c)
 
 pub step-as : (u u′ v v′ : ℕ → ℕ) (f g : Mem) → ((c : ℕ) → v c ≡ u c) → ((c : ℕ) → v′ c ≡ u′ c) → Step u u′ f g → Step v v′ f g
-step-as u u′ v v′ f g a b s = record
-  { balanced = λ c. omega (arith, a c, b c, s .balanced c)
-  ; leaves = λ c n. s .leaves c (omega (arith, a c)) }
+step-as u u′ v v′ f g a b s = record {
+  balanced = λ c. omega (arith, a c, b c, s .balanced c);
+  leaves = λ c n. s .leaves c (omega (arith, a c));
+}
 
 pub step-none : (u : ℕ → ℕ) (f : Mem) → Step u u f f
 step-none u f = record { balanced = λ c. refl; leaves = λ c n. refl }
@@ -58,9 +61,11 @@ step-at b ws f n n′ e l = record { balanced = λ c. bal c (ℕ-discrete c b); 
   where
     here : n′ * hit b b + held f b ≡ n * hit b b + held (at b ws f) b
     here = rw (hit-same b, at-same b ws f) (omega arith)
+
     bal : (c : ℕ) → Dec (c ≡ b) → n′ * hit b c + held f c ≡ n * hit b c + held (at b ws f) c
     bal c (yes p) = rw p here
     bal c (no p) = rw (hit-other b c p, at-other b ws f c p) (omega arith)
+
     leave : (c : ℕ) → n * hit b c < held f c → Dec (c ≡ b) → at b ws f c ≡ f c
     leave c m (yes p) = absurd (omega (arith, l, rw (p, hit-same b) at m))
     leave c m (no p) = at-other b ws f c p
@@ -86,4 +91,3 @@ module _ (t v u u′ w : ℕ → ℕ) (f g h : Mem) (all : Step t v f g) (fits :
 -- how many are held, where a block changes
 pub held-at : (f : Mem) (b : ℕ) (ws : List ℕ) → b < 1048576 → sumTo 1048576 (held (at b ws f)) + held f b ≡ sumTo 1048576 (held f) + some ws
 held-at f b ws l = sumTo-one 1048576 b (held f) (held (at b ws f)) l (λ i m e. ap some (at-other b ws f i e)) ∙ ap (λ x. sumTo 1048576 (held f) + x) (ap some (at-same b ws f))
-

@@ -26,19 +26,22 @@ sumTo-same (suc n) g g′ e = omega (arith, sumTo-same n g g′ (λ i l. e i (om
 pub sumTo-one : (n j : ℕ) (g g′ : ℕ → ℕ) → j < n → ((i : ℕ) → i < n → (i ≡ j → ⊥) → g′ i ≡ g i) → sumTo n g′ + g j ≡ sumTo n g + g′ j
 unfolding sumTo
 sumTo-one zero j g g′ l e = absurd (omega arith)
-sumTo-one (suc n) j g g′ l e = elim (ℕ-discrete n j)
-  [ yes p ↦ omega (arith, ap g p, ap g′ p, sumTo-same n g g′ (λ i m. e i (omega arith) (λ z. omega arith)))
-  | no p ↦ omega (arith, sumTo-one n j g g′ (omega arith) (λ i m z. e i (omega arith) z), e n (omega arith) p) ]
+sumTo-one (suc n) j g g′ l e = elim (ℕ-discrete n j) [
+  | yes p ↦ omega (arith, ap g p, ap g′ p, sumTo-same n g g′ (λ i m. e i (omega arith) (λ z. omega arith)))
+  | no p ↦ omega (arith, sumTo-one n j g g′ (omega arith) (λ i m z. e i (omega arith) z), e n (omega arith) p)
+]
 
 -- at j and k
 pub sumTo-two : (n j k : ℕ) (g g′ : ℕ → ℕ) → j < n → k < n → (j ≡ k → ⊥) → ((i : ℕ) → i < n → (i ≡ j → ⊥) → (i ≡ k → ⊥) → g′ i ≡ g i) → sumTo n g′ + (g j + g k) ≡ sumTo n g + (g′ j + g′ k)
 unfolding sumTo
 sumTo-two zero j k g g′ l m d e = absurd (omega arith)
-sumTo-two (suc n) j k g g′ l m d e = elim (ℕ-discrete n j)
-  [ yes p ↦ omega (arith, ap g p, ap g′ p, sumTo-one n k g g′ (omega arith) (λ i o z. e i (omega arith) (λ y. omega arith) z))
-  | no p ↦ elim (ℕ-discrete n k)
-    [ yes q ↦ omega (arith, ap g q, ap g′ q, sumTo-one n j g g′ (omega arith) (λ i o z. e i (omega arith) z (λ y. omega arith)))
-    | no q ↦ omega (arith, sumTo-two n j k g g′ (omega arith) (omega arith) d (λ i o y z. e i (omega arith) y z), e n (omega arith) p q) ] ]
+sumTo-two (suc n) j k g g′ l m d e = elim (ℕ-discrete n j) [
+  | yes p ↦ omega (arith, ap g p, ap g′ p, sumTo-one n k g g′ (omega arith) (λ i o z. e i (omega arith) (λ y. omega arith) z))
+  | no p ↦ elim (ℕ-discrete n k) [
+    | yes q ↦ omega (arith, ap g q, ap g′ q, sumTo-one n j g g′ (omega arith) (λ i o z. e i (omega arith) z (λ y. omega arith)))
+    | no q ↦ omega (arith, sumTo-two n j k g g′ (omega arith) (omega arith) d (λ i o y z. e i (omega arith) y z), e n (omega arith) p q)
+  ]
+]
 
 pub sumTo-le : (n : ℕ) (g g′ : ℕ → ℕ) → ((i : ℕ) → i < n → g i ≤ g′ i) → sumTo n g ≤ sumTo n g′
 unfolding sumTo
@@ -67,4 +70,3 @@ pub sumTo-swap : (n m : ℕ) (u : ℕ → ℕ → ℕ) → sumTo n (λ c. sumTo 
 unfolding sumTo
 sumTo-swap n zero u = sumTo-none n
 sumTo-swap n (suc m) u = sumTo-add n (λ c. sumTo m (λ j. u j c)) (u m) ∙ ap (λ x. x + sumTo n (u m)) (sumTo-swap n m u)
-

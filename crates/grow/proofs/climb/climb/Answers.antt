@@ -13,10 +13,11 @@ rise-up-requires g c κs =
     }
 
 pub loop-d-again : need.loop-d-again
-loop-d-again g c =
-    ( omega arith
-    , spent-then _ turnAsks _ _ _ _ (omega arith) (c .loop-d .inv .1) (spent-settled _ _ _ _ _ _ _ _ _ _ _ _ (c .rise-up .ensures))
-    , λ z a. turn-at _ _ _ _ (c .loop-d-test .taken) _ _ _ _ _ (c .loop-d .inv .2 z a) (g .K·Kind·met .lawful) _ _ _ _ _ (c .rise-up .ensures) )
+loop-d-again g c = (
+  omega arith,
+  spent-then _ turnAsks _ _ _ _ (omega arith) (c .loop-d .inv .1) (spent-settled _ _ _ _ _ _ _ _ _ _ _ _ (c .rise-up .ensures)),
+  λ z a. turn-at _ _ _ _ (c .loop-d-test .taken) _ _ _ _ _ (c .loop-d .inv .2 z a) (g .K·Kind·met .lawful) _ _ _ _ _ (c .rise-up .ensures),
+)
 
 pub returns : need.returns
 returns g c = record {

@@ -30,7 +30,7 @@ settle-node-requires g c κs =
     let dec = g .Node·Codec .decode in
     let ks = g .K·Kind .layout .children (g .W·Store .memory (c .args .m .now) .block (c .args .b)) in
     let e : entries w dec (c .put .last .page) ≡ placed ks (c .args .place) (c .args .one) (c .args .two) =
-      put-placed ks _ _ _ _ _ (c .load-node-page .ensures .after) (p .inside) (c .put .ensures) in
+    put-placed ks _ _ _ _ _ (c .load-node-page .ensures .after) (p .inside) (c .put .ensures) in
     let n : c .put .last .page .len ≡ length (placed ks (c .args .place) (c .args .one) (c .args .two)) = sym (length-entries w dec (c .put .last .page)) ∙ ap length e in
     let len = length-placed ks (c .args .place) (c .args .one) (c .args .two) (p .inside) in
     let ot = length-one-or-two (c .args .one) (c .args .two) in
@@ -52,5 +52,5 @@ returns g c =
     let dec = g .Node·Codec .decode in
     let ks = g .K·Kind .layout .children (g .W·Store .memory (c .args .m .now) .block (c .args .b)) in
     let e : entries w dec (c .put .last .page) ≡ placed ks (c .args .place) (c .args .one) (c .args .two) =
-      put-placed ks _ _ _ _ _ (c .load-node-page .ensures .after) (p .inside) (c .put .ensures) in
+    put-placed ks _ _ _ _ _ (c .load-node-page .ensures .after) (p .inside) (c .put .ensures) in
     settled-after _ _ _ _ _ _ _ _ _ _ _ _ _ _ _ (c .load-node-page .ensures .same) e (c .settle-node .ensures)

@@ -18,10 +18,13 @@ pub reserve-requires : need.reserve-requires
 reserve-requires g c κs =
     let p = c .pre in
     let d = c .descend-reached .ensures in
-    let e = c .blocks-for .ensures in
-    ( omega (arith, few _ (fit g) _ _ (c .args .x) _ (p .lies) (p .tall) (p .asks) _ _ d _ e)
-    , ( reserve-asks _ (fit g) _ _ (c .args .x) _ (p .lies) (p .tall) (p .asks) _ _ d _ e
-      , reserve-room _ (fit g) _ _ (c .args .x) _ (p .lies) (p .tall) (p .asks) _ _ d _ e (p .room)) )
+    let e = c .blocks-for .ensures in (
+      omega (arith, few _ (fit g) _ _ (c .args .x) _ (p .lies) (p .tall) (p .asks) _ _ d _ e),
+      (
+        reserve-asks _ (fit g) _ _ (c .args .x) _ (p .lies) (p .tall) (p .asks) _ _ d _ e,
+        reserve-room _ (fit g) _ _ (c .args .x) _ (p .lies) (p .tall) (p .asks) _ _ d _ e (p .room),
+      ),
+    )
 
 pub returns-in-Break-stock : need.returns-in-Break-stock
 returns-in-Break-stock g c =
@@ -65,7 +68,7 @@ give-all-requires g c κs =
     let cl = c .climb-top .ensures in
     let cr = c .new-root-tree .ensures in
     rest _ (fit g) _ _ (c .args .x) _ (p .lies) (p .tall) (p .asks) _ _ (c .descend-reached .ensures) _ (c .blocks-for .ensures) _ _ (c .in-Continue-stock .ensures tt) _ _ _ _ (c .insert-leaf-split .ensures)
-      _ _ _ _ (cl .climbs) (cl .spent) _ _ _ (cr .crowns) (cr .spent)
+    _ _ _ _ (cl .climbs) (cl .spent) _ _ _ (cr .crowns) (cr .spent)
 
 pub returns : need.returns
 returns g c =
@@ -73,4 +76,4 @@ returns g c =
     let cl = c .climb-top .ensures in
     let cr = c .new-root-tree .ensures in
     done _ (fit g) _ _ (c .args .x) _ (p .lies) (p .tall) (p .asks) _ _ (c .descend-reached .ensures) _ (c .blocks-for .ensures) _ _ (c .in-Continue-stock .ensures tt) _ _ _ _ (c .insert-leaf-split .ensures)
-      _ _ _ _ (cl .climbs) (cl .spent) _ _ _ (cr .crowns) (cr .spent) _ (c .give-all .ensures)
+    _ _ _ _ (cl .climbs) (cl .spent) _ _ _ (cr .crowns) (cr .spent) _ (c .give-all .ensures)

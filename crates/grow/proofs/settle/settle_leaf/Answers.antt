@@ -19,7 +19,7 @@ pub returns-then-len-leaf-cap : need.returns-then-len-leaf-cap
 returns-then-len-leaf-cap g c =
     let n = length-entries (g .Leaf·Codec .width) (g .Leaf·Codec .decode) (c .args .page) in
     in-one (imaged (g .Leaf·Codec .width) (g .Leaf·Codec .decode)) _ (g .K·Kind·met .leaves) (leafEntry (g .K·Kind .layout)) _ _ _ _ _ _ (c .pre .there) (c .pre .stocked) (c .pre .beside) (c .store-page .ensures) _ _ refl
-      (omega (arith, n, c .len .ensures, c .leaf-cap .ensures)) (c .leaf-entry .ensures .value)
+    (omega (arith, n, c .len .ensures, c .leaf-cap .ensures)) (c .leaf-entry .ensures .value)
 
 pub split-upper-requires : need.split-upper-requires
 split-upper-requires g c κs = record {
@@ -36,4 +36,4 @@ returns g c =
     let n = length-entries (g .Leaf·Codec .width) (g .Leaf·Codec .decode) (c .args .page) in
     let p = c .split-upper .ensures in
     in-both (imaged (g .Leaf·Codec .width) (g .Leaf·Codec .decode)) _ (g .K·Kind·met .leaves) (leafEntry (g .K·Kind .layout)) (λ d ys. refl) _ _ _ _ _ _ _ _ _ _ _ _ (omega (arith, n, c .len .ensures, c .leaf-cap .ensures))
-      (p .parted) (c .leaf-entry-2 .ensures .value) (p .stay) (c .leaf-entry-3 .ensures .value) (p .leave)
+    (p .parted) (c .leaf-entry-2 .ensures .value) (p .stay) (c .leaf-entry-3 .ensures .value) (p .leave)

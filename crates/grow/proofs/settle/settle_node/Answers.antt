@@ -20,7 +20,7 @@ pub returns-then-len-node-cap : need.returns-then-len-node-cap
 returns-then-len-node-cap g c =
     let n = length-entries (g .Node·Codec .width) (g .Node·Codec .decode) (c .args .page) in
     in-one (imaged (g .Node·Codec .width) (g .Node·Codec .decode)) _ (g .K·Kind·met .nodes) (entryOf (g .K·Kind .layout)) _ _ _ _ _ _ (c .pre .there) (c .pre .stocked) (c .pre .beside) (c .store-page .ensures) _ _ refl
-      (omega (arith, n, c .len .ensures, c .node-cap .ensures)) (c .node-entry .ensures .value)
+    (omega (arith, n, c .len .ensures, c .node-cap .ensures)) (c .node-entry .ensures .value)
 
 pub split-upper-requires : need.split-upper-requires
 split-upper-requires g c κs = record {
@@ -57,4 +57,4 @@ returns g c =
     let n = length-entries (g .Node·Codec .width) (g .Node·Codec .decode) (c .args .page) in
     let p = c .split-upper .ensures in
     in-both (imaged (g .Node·Codec .width) (g .Node·Codec .decode)) _ (g .K·Kind·met .nodes) (entryOf (g .K·Kind .layout)) (λ d ys. refl) _ _ _ _ _ _ _ _ _ _ _ _ (omega (arith, n, c .len .ensures, c .node-cap .ensures))
-      (p .parted) (c .node-entry-2 .ensures .value) (p .stay) (c .node-entry-3 .ensures .value) (p .leave)
+    (p .parted) (c .node-entry-2 .ensures .value) (p .stay) (c .node-entry-3 .ensures .value) (p .leave)

@@ -18,7 +18,7 @@ loop-level-again g c = λ z v.
     let p = c .args .path .now in
     let h = c .loop-level .level in
     climb-on K z (p .blocks) (p .places) (p .depth) h (g .W·Store .memory (c .loop-level .m)) (c .loop-level .top) _ _
-      (c .turn-top .ensures (site K z (p .blocks) (p .places) (p .depth) h (g .W·Store .memory (c .loop-level .m)) (c .loop-level .top)) (climb-below K z (p .blocks) (p .places) (p .depth) h _ _ (omega arith) (c .loop-level .inv z v)))
+    (c .turn-top .ensures (site K z (p .blocks) (p .places) (p .depth) h (g .W·Store .memory (c .loop-level .m)) (c .loop-level .top)) (climb-below K z (p .blocks) (p .places) (p .depth) h _ _ (omega arith) (c .loop-level .inv z v)))
 
 pub returns : need.returns
 returns g c = λ z v. climb-ends (g .K·Kind .layout) z _ _ _ (c .loop-level .level) _ _ (omega arith) (c .loop-level .inv z v)

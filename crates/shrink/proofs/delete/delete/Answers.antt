@@ -48,7 +48,7 @@ climb-top-requires g c κs =
     let m = g .W·Store .memory (c .args .m .now) in (
       start K lw wide narrow m (c .args .t) (c .args .at) (c .pre .lies) (c .pre .place) (c .pre .asks),
       code-begun K lw wide narrow m (c .args .t) (c .args .at) (c .pre .lies) (c .pre .place) (c .pre .asks) _ _ _ _ (c .descend-reached .ensures) (c .load-leaf-page .ensures .same)
-        _ _ _ (c .load-leaf-page .ensures .after) (c .remove-item .ensures .after) (c .put-leaf-risen .ensures),
+          _ _ _ (c .load-leaf-page .ensures .after) (c .remove-item .ensures .after) (c .put-leaf-risen .ensures),
     )
 
 pub trim-requires : need.trim-requires
@@ -60,7 +60,7 @@ trim-requires g c κs =
     let m = g .W·Store .memory (c .args .m .now) in
     let z = start K lw wide narrow m (c .args .t) (c .args .at) (c .pre .lies) (c .pre .place) (c .pre .asks) in
     let v = code-begun K lw wide narrow m (c .args .t) (c .args .at) (c .pre .lies) (c .pre .place) (c .pre .asks) _ _ _ _ (c .descend-reached .ensures) (c .load-leaf-page .ensures .same)
-        _ _ _ (c .load-leaf-page .ensures .after) (c .remove-item .ensures .after) (c .put-leaf-risen .ensures) in
+    _ _ _ (c .load-leaf-page .ensures .after) (c .remove-item .ensures .after) (c .put-leaf-risen .ensures) in
     (z, code-topmost K lw wide narrow m (c .args .t) (c .args .at) (c .pre .lies) (c .pre .place) (c .pre .asks) _ _ _ (g .W·Store .memory (c .put-leaf-risen .last .m)) (c .descend-reached .ensures) (c .load-leaf-page .ensures .same) _ _ (c .climb-top .ensures z v))
 
 pub returns : need.returns
@@ -72,7 +72,7 @@ returns g c =
     let m = g .W·Store .memory (c .args .m .now) in
     let z = start K lw wide narrow m (c .args .t) (c .args .at) (c .pre .lies) (c .pre .place) (c .pre .asks) in
     let v = code-begun K lw wide narrow m (c .args .t) (c .args .at) (c .pre .lies) (c .pre .place) (c .pre .asks) _ _ _ _ (c .descend-reached .ensures) (c .load-leaf-page .ensures .same)
-        _ _ _ (c .load-leaf-page .ensures .after) (c .remove-item .ensures .after) (c .put-leaf-risen .ensures) in
+    _ _ _ (c .load-leaf-page .ensures .after) (c .remove-item .ensures .after) (c .put-leaf-risen .ensures) in
     let w = code-topmost K lw wide narrow m (c .args .t) (c .args .at) (c .pre .lies) (c .pre .place) (c .pre .asks) _ _ _ (g .W·Store .memory (c .put-leaf-risen .last .m)) (c .descend-reached .ensures) (c .load-leaf-page .ensures .same) _ _ (c .climb-top .ensures z v) in
     code-deleted K lw wide narrow m (c .args .t) (c .args .at) (c .pre .lies) (c .pre .place) (c .pre .asks) _ _ _ (g .W·Store .memory (c .put-leaf-risen .last .m)) (c .descend-reached .ensures) (c .load-leaf-page .ensures .same)
-      _ _ (c .trim .result) _ (c .load-leaf-page .ensures .after) (c .remove-item .ensures .value) (c .trim .ensures z w)
+    _ _ (c .trim .result) _ (c .load-leaf-page .ensures .after) (c .remove-item .ensures .value) (c .trim .ensures z w)

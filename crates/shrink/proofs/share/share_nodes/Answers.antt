@@ -24,11 +24,17 @@ node-entry-one-requires g c κs =
     let n = g .W·Store .memory (c .even-right .last .m) in
     let some : 0 < half (c .node-cap .result) = omega (arith, c .node-cap .ensures, g .K·Kind·met .lawful .node-room) in
     record {
-      some = omega (arith, length-entries (g .Node·Codec .width) (g .Node·Codec .decode) (c .even-right .result .0),
+      some = omega (
+        arith,
+        length-entries (g .Node·Codec .width) (g .Node·Codec .decode) (c .even-right .result .0),
         first-some (entries (g .Node·Codec .width) (g .Node·Codec .decode)) (imaged (g .Node·Codec .width) (g .Node·Codec .decode)) (K .children) (g .K·Kind·met .nodes) (c .node-cap .result) (c .args .a) (c .args .b) m n (c .even-right .result .0) (c .even-right .result .1) (c .even-right .ensures)
-          some (nodes-enough K (g .K·Kind·met .lawful) (c .args .a) (c .args .b) m (c .node-cap .result) (c .pre .neighbours .0) (c .node-cap .ensures) (c .pre .neighbours .1)));
-      few = omega (arith, counts-both K shareAsks (c .args .a) (c .args .b) m (g .K·Kind·met .lawful) (c .pre .neighbours .0) (c .pre .neighbours .1),
-        first-part (entries (g .Node·Codec .width) (g .Node·Codec .decode)) (imaged (g .Node·Codec .width) (g .Node·Codec .decode)) (K .children) (g .K·Kind·met .nodes) (c .node-cap .result) (c .args .a) (c .args .b) m n (c .even-right .result .0) (c .even-right .result .1) (c .even-right .ensures) counts counts-append);
+            some (nodes-enough K (g .K·Kind·met .lawful) (c .args .a) (c .args .b) m (c .node-cap .result) (c .pre .neighbours .0) (c .node-cap .ensures) (c .pre .neighbours .1)),
+      );
+      few = omega (
+        arith,
+        counts-both K shareAsks (c .args .a) (c .args .b) m (g .K·Kind·met .lawful) (c .pre .neighbours .0) (c .pre .neighbours .1),
+        first-part (entries (g .Node·Codec .width) (g .Node·Codec .decode)) (imaged (g .Node·Codec .width) (g .Node·Codec .decode)) (K .children) (g .K·Kind·met .nodes) (c .node-cap .result) (c .args .a) (c .args .b) m n (c .even-right .result .0) (c .even-right .result .1) (c .even-right .ensures) counts counts-append,
+      );
     }
 
 pub node-entry-requires : need.node-entry-requires
@@ -38,12 +44,18 @@ node-entry-requires g c κs =
     let n = g .W·Store .memory (c .even-right .last .m) in
     let some : 0 < half (c .node-cap .result) = omega (arith, c .node-cap .ensures, g .K·Kind·met .lawful .node-room) in
     record {
-      some = omega (arith, length-entries (g .Node·Codec .width) (g .Node·Codec .decode) (c .in-Some .right),
+      some = omega (
+        arith,
+        length-entries (g .Node·Codec .width) (g .Node·Codec .decode) (c .in-Some .right),
         second-some (entries (g .Node·Codec .width) (g .Node·Codec .decode)) (imaged (g .Node·Codec .width) (g .Node·Codec .decode)) (K .children) (g .K·Kind·met .nodes) (c .node-cap .result) (c .args .a) (c .args .b) m n (c .even-right .result .0) (c .even-right .result .1) (c .even-right .ensures)
-          (c .in-Some .right) (c .in-Some .is) some);
-      few = omega (arith, counts-both K shareAsks (c .args .a) (c .args .b) m (g .K·Kind·met .lawful) (c .pre .neighbours .0) (c .pre .neighbours .1),
+            (c .in-Some .right) (c .in-Some .is) some,
+      );
+      few = omega (
+        arith,
+        counts-both K shareAsks (c .args .a) (c .args .b) m (g .K·Kind·met .lawful) (c .pre .neighbours .0) (c .pre .neighbours .1),
         second-part (entries (g .Node·Codec .width) (g .Node·Codec .decode)) (imaged (g .Node·Codec .width) (g .Node·Codec .decode)) (K .children) (g .K·Kind·met .nodes) (c .node-cap .result) (c .args .a) (c .args .b) m n (c .even-right .result .0) (c .even-right .result .1) (c .even-right .ensures)
-          (c .in-Some .right) (c .in-Some .is) counts counts-append);
+            (c .in-Some .right) (c .in-Some .is) counts counts-append,
+      );
     }
 
 pub returns-in-Some : need.returns-in-Some
@@ -52,9 +64,9 @@ returns-in-Some g c = λ h v.
     let m = g .W·Store .memory (c .args .m .now) in
     let n = g .W·Store .memory (c .even-right .last .m) in
     to-two (entries (g .Node·Codec .width) (g .Node·Codec .decode)) (imaged (g .Node·Codec .width) (g .Node·Codec .decode)) (K .children) (g .K·Kind·met .nodes) (c .node-cap .result) (c .args .a) (c .args .b) m n (c .even-right .result .0) (c .even-right .result .1) (c .even-right .ensures)
-      (c .in-Some .right) (c .in-Some .is) (entryOf K) (λ ns. Shared K shareAsks (suc h) (c .args .a) (c .args .b) m ns n)
-      (λ xs ys p. nodes-shared-two K (g .K·Kind·met .lawful) (c .args .a) (c .args .b) m (c .node-cap .result) h n xs ys (c .node-cap .ensures) v p)
-      _ _ (c .node-entry-one .ensures .value) (c .node-entry .ensures .value)
+    (c .in-Some .right) (c .in-Some .is) (entryOf K) (λ ns. Shared K shareAsks (suc h) (c .args .a) (c .args .b) m ns n)
+    (λ xs ys p. nodes-shared-two K (g .K·Kind·met .lawful) (c .args .a) (c .args .b) m (c .node-cap .result) h n xs ys (c .node-cap .ensures) v p)
+    _ _ (c .node-entry-one .ensures .value) (c .node-entry .ensures .value)
 
 pub returns-in-None : need.returns-in-None
 returns-in-None g c = λ h v.
@@ -62,6 +74,6 @@ returns-in-None g c = λ h v.
     let m = g .W·Store .memory (c .args .m .now) in
     let n = g .W·Store .memory (c .even-right .last .m) in
     to-one (entries (g .Node·Codec .width) (g .Node·Codec .decode)) (imaged (g .Node·Codec .width) (g .Node·Codec .decode)) (K .children) (g .K·Kind·met .nodes) (c .node-cap .result) (c .args .a) (c .args .b) m n (c .even-right .result .0) (c .even-right .result .1) (c .even-right .ensures)
-      (c .in-None .is) (entryOf K) (λ ns. Shared K shareAsks (suc h) (c .args .a) (c .args .b) m ns n)
-      (λ xs p. nodes-shared K (g .K·Kind·met .lawful) (c .args .a) (c .args .b) m (c .node-cap .result) h n xs (c .node-cap .ensures) v p)
-      _ (c .node-entry-one .ensures .value)
+    (c .in-None .is) (entryOf K) (λ ns. Shared K shareAsks (suc h) (c .args .a) (c .args .b) m ns n)
+    (λ xs p. nodes-shared K (g .K·Kind·met .lawful) (c .args .a) (c .args .b) m (c .node-cap .result) h n xs (c .node-cap .ensures) v p)
+    _ (c .node-entry-one .ensures .value)

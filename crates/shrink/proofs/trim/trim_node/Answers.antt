@@ -35,8 +35,11 @@ cast-result g c =
     let K = g .K·Kind .layout in
     let lw = g .K·Kind·met .lawful in
     record {
-      fits = omega (arith, code-small K lw _ _ _ _ v (c .pre .height) _ (c .load-node-page .ensures .same) (c .get .result) (λ d. c .get .ensures .value d ∙ ap (λ (ks : List Child). getD ks 0 d) (c .load-node-page .ensures .after))
-        (omega (arith, node-some K lw _ _ _ _ v (c .pre .height), c .if-len-gt1 .left, c .len .ensures .0, c .load-node-page .ensures .len)));
+      fits = omega (
+        arith,
+        code-small K lw _ _ _ _ v (c .pre .height) _ (c .load-node-page .ensures .same) (c .get .result) (λ d. c .get .ensures .value d ∙ ap (λ (ks : List Child). getD ks 0 d) (c .load-node-page .ensures .after))
+            (omega (arith, node-some K lw _ _ _ _ v (c .pre .height), c .if-len-gt1 .left, c .len .ensures .0, c .load-node-page .ensures .len)),
+      );
     }
 
 pub returns : need.returns

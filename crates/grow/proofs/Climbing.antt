@@ -2,7 +2,7 @@
 use mathlib.Core.Path.{_≡_, refl, sym, ap, subst, _∙_}
 use mathlib.Core.Bool.{Bool}
 use mathlib.Core.List.{List, [], _∷_, _++_}
-use Prim.Native.Nat.{ℕ, suc, _+_, _-_, _*_, _/_, _^_, _≤_, _<_}
+use Prim.Native.Nat.{ℕ, suc, _+_, _-_, _≤_, _<_}
 use native.Mathlib.Omega.{arith}
 use native.Mathlib.Numerals.{add-one}
 use lib.Dec.{T}
@@ -21,10 +21,10 @@ use Rattle.store.specs.Reserve.{uses}
 use Rattle.store.proofs.Sums.{hit-same}
 use Rattle.store.proofs.Stepping.{step-fits}
 use Rattle.store.proofs.Running.{held-le}
-use Rattle.tree.specs.Tree.{flat, All, contents, Sound, contentsOf, ChildOk, ChildrenOk}
+use Rattle.tree.specs.Tree.{flat, All, contents, Sound, contentsOf, ChildOk}
 use Rattle.tree.specs.Paths.{Branch, left, right, Path, before, behind, around}
 use Rattle.tree.specs.Growing.{Loose, Growing, now}
-use Rattle.tree.specs.Climb.{oneOrTwo, branches, Start, Grows}
+use Rattle.tree.specs.Climb.{oneOrTwo, branches, Start}
 use Rattle.tree.proofs.Each.{All-left, All-right}
 use Rattle.tree.proofs.Entries.{counts-right}
 use Rattle.tree.proofs.Paths.{seen}

@@ -1,8 +1,8 @@
 -- The course of an insertion, call by call.
 use mathlib.Core.Path.{_≡_, refl, ap}
 use mathlib.Core.Bool.{true}
-use mathlib.Core.List.{List, []}
-use Prim.Native.Nat.{ℕ, suc, _+_, _*_, _≤_, _<_}
+use mathlib.Core.List.{[]}
+use Prim.Native.Nat.{ℕ, _+_, _*_, _≤_, _<_}
 use native.Mathlib.Omega.{arith}
 use lib.ListN.{length}
 use Rattle.std.specs.shelf.Lists.{inserted}
@@ -15,7 +15,6 @@ use Rattle.store.specs.Stocked.{Stocked}
 use Rattle.store.specs.Reserve.{uses, Reserved, Undone, GivenAll}
 use Rattle.tree.specs.declared.top.Tree.{Tree}
 use Rattle.tree.specs.Trees.{Lies}
-use Rattle.tree.specs.Climb.{Start}
 use Rattle.tree.specs.Pages.{pageAsks}
 use Rattle.seek.specs.declared.reached.Reached.{Reached}
 use Rattle.seek.specs.Asks.{descendAsks}

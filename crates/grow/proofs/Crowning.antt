@@ -14,7 +14,6 @@ use Rattle.store.specs.declared.reserve.Reserve.{Reserve}
 use Rattle.store.specs.Memory.{Memory, Stored}
 use Rattle.store.specs.Steps.{Mem}
 use Rattle.store.specs.Reserve.{uses}
-use Rattle.tree.specs.declared.top.Tree.{Tree}
 use Rattle.tree.specs.Tree.{All, Sound, Root}
 use Rattle.tree.specs.Growing.{Loose}
 use Rattle.tree.specs.Climb.{oneOrTwo, Start}

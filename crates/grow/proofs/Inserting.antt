@@ -1,7 +1,6 @@
 -- An insertion from its beginning to its end.
 use mathlib.Core.Path.{_≡_, refl, sym, ap, ap₂, subst, _∙_}
-use mathlib.Core.Bool.{Bool, true, false}
-use mathlib.Core.List.{List, [], _∷_, _++_}
+use mathlib.Core.List.{List, [], _∷_}
 use Prim.Native.Nat.{ℕ, zero, suc, _+_, _-_, _*_, _^_, _≤_, _<_}
 use native.Mathlib.Omega.{arith}
 use native.Mathlib.Nat.{mul-le-mul}
@@ -16,11 +15,11 @@ use Rattle.page.specs.declared.child.Child.{Child}
 use Rattle.page.specs.Layout.{Layout, Lawful, leafEntry}
 use Rattle.store.specs.declared.reserve.Reserve.{Reserve}
 use Rattle.store.specs.Memory.{Memory, Stored}
-use Rattle.store.specs.Steps.{Mem, Same, Step, Ran, hit, held, heldIn}
+use Rattle.store.specs.Steps.{Mem, Step, Ran, hit, held}
 use Rattle.store.specs.Stocked.{Stocked}
 use Rattle.store.specs.Reserve.{uses, Reserved, Undone, GivenAll}
 use Rattle.store.proofs.Stepping.{step-then, step-as, step-beside, step-same}
-use Rattle.store.proofs.Running.{held-le, stored-held, ran-then, ran-more}
+use Rattle.store.proofs.Running.{held-le, stored-held, ran-then}
 use Rattle.store.proofs.Stocking.{reserve-few}
 use Rattle.tree.specs.declared.top.Tree.{Tree}
 use Rattle.tree.specs.Tree.{contents, uses as treeUses, Sound, Root, blocks, Kept}
@@ -37,17 +36,15 @@ use Rattle.tree.proofs.Frames.{frame}
 use Rattle.tree.proofs.Leaves.{grow-leaf, grow-leaves}
 use Rattle.tree.proofs.Paths.{seen}
 use Rattle.tree.proofs.Places.{inserted as inserted-below}
-use Rattle.seek.specs.Asks.{descendAsks}
 use Rattle.seek.specs.Descent.{nodesFull, fullRun}
 use Rattle.tree.proofs.Low.{blocks-low}
 use Rattle.seek.proofs.Readings.{reading-left}
-use Rattle.grow.specs.Asks.{insertAsks, insertUndone}
+use Rattle.grow.specs.Asks.{insertAsks}
 use Rattle.grow.specs.Settle.{lower, upper, Settled}
 use Rattle.grow.specs.Rises.{Spent, needed, Rises}
 use Rattle.grow.specs.Crown.{Crowned}
 use Rattle.grow.specs.Inserted.{blocksFor, Inserted}
 use Rattle.grow.proofs.Settling.{reading-ran}
-use Rattle.grow.proofs.Climbing.{spent-ran, spent-then}
 
 -- the blocks got after a descent
 pub record Stock (k : ℕ) (n : ℕ) (m : Memory) (s : Reserve) (m′ : Memory) : Type 0 where

@@ -4,3 +4,4 @@ pub mod Crowning
 pub mod Inserting
 pub mod Planting
 pub mod Course
+pub mod Lying

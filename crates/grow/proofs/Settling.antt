@@ -14,10 +14,10 @@ use Rattle.store.specs.Steps.{Mem, Ran, hit, held}
 use Rattle.store.specs.Stocked.{Stocked}
 use Rattle.store.specs.Reserve.{uses, Taken}
 use Rattle.store.proofs.Sums.{hit-same, hit-other}
-use Rattle.store.proofs.Stepping.{step-fits, at-other}
+use Rattle.store.proofs.Stepping.{at-other}
 use Rattle.store.proofs.Memories.{by-place}
 use Rattle.store.proofs.Running.{stored-held, ran-asked, ran-then, ran-as, ran-beside, ran-more}
-use Rattle.store.proofs.Stocking.{stocked-beside, stocked-part, taken-stocked}
+use Rattle.store.proofs.Stocking.{stocked-beside, stocked-part}
 use Rattle.tree.specs.Pages.{pageAsks, Reading, Writing}
 use Rattle.tree.proofs.Writing.{stored-after, wrote-reads}
 use Rattle.grow.specs.Asks.{settleAsks}

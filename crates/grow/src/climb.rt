@@ -1,11 +1,10 @@
 // What came up from a page goes into the nodes above it, which split where they are full.
-ghost use mathlib.Core.Path.{_≡_};
 ghost use mathlib.Core.List.{[]};
-ghost use Prim.Native.Nat.{ℕ, _+_, _*_, _<_, _≤_};
-ghost use lib.ListN.{length};
+ghost use Prim.Native.Nat.{_*_, _<_, _≤_};
 ghost use Rattle.page.specs.Layout.{entryOf};
 ghost use Rattle.page.specs.View.{entries};
 ghost use Rattle.tree.specs.Climb.{branches};
+ghost use Rattle.seek.specs.Sizes.{longest};
 ghost use Rattle.grow.specs.Asks.{turnAsks};
 ghost use Rattle.grow.specs.Settle.{Settled};
 ghost use Rattle.grow.specs.Rises.{placed, PutIn, Valid, Spent, Ready, CanRise, Climbs};
@@ -14,6 +13,7 @@ use page::child::Child;
 use page::kind::Kind;
 use page::page::Page;
 use seek::nodes::load_node;
+use seek::path::LONGEST;
 use store::Store;
 use store::reserve::Reserve;
 
@@ -51,14 +51,14 @@ fn rise<K: Kind, W: Store<M>, M>(
 // Up all nodes of a path: its first `depth` nodes from the root on, and the child taken in each.
 pub fn climb<K: Kind, W: Store<M>, M>(
     m: &mut M,
-    blocks: &[u32; 8],
-    places: &[u32; 8],
+    blocks: &[u32; LONGEST],
+    places: &[u32; LONGEST],
     depth: u32,
     first: Child,
     second: Option<Child>,
     reserve: &mut Reserve,
 ) -> (Child, Option<Child>)
-    requires deep { ⌜ depth ≤ 8 ⌝ }
+    requires deep { ⌜ depth ≤ longest ⌝ }
     requires asks { ⌜ depth * turnAsks ≤ memory (now m) .left ⌝ }
     requires rises { ⌜ CanRise (K·Kind .layout) (branches (now blocks) (now places) depth) (memory (now m)) (now reserve) first second ⌝ }
     ensures climbs { λ r. ⌜ Climbs (K·Kind .layout) (branches (now (blocks .entry)) (now (places .entry)) depth) (memory (now (m .entry))) (now (reserve .entry)) first second [] (memory (now (m .exit))) (now (reserve .exit)) (r .0) (r .1) ⌝ }

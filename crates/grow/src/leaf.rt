@@ -1,6 +1,6 @@
 // An item comes into a leaf.
 ghost use mathlib.Core.Path.{_≡_};
-ghost use Prim.Native.Nat.{ℕ, _+_, _<_, _≤_};
+ghost use Prim.Native.Nat.{_<_, _≤_};
 ghost use lib.ListN.{length};
 ghost use Rattle.std.specs.shelf.Lists.{inserted};
 ghost use Rattle.page.specs.Layout.{leafEntry};

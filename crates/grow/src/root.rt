@@ -1,7 +1,6 @@
 // The root of a tree, after a climb.
-ghost use mathlib.Core.Path.{_≡_};
 ghost use mathlib.Core.List.{[], _∷_};
-ghost use Prim.Native.Nat.{ℕ, _<_, _≤_};
+ghost use Prim.Native.Nat.{_<_, _≤_};
 ghost use lib.Dec.{T};
 ghost use Rattle.store.specs.Stocked.{Stocked};
 ghost use Rattle.store.specs.Reserve.{uses};

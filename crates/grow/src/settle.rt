@@ -1,6 +1,6 @@
 // A page, with one entry more perhaps than fit, goes to its block, or in two halves to it and to a block of the reserve.
 ghost use mathlib.Core.Path.{_≡_};
-ghost use Prim.Native.Nat.{ℕ, _+_, _*_, _/_, _^_, _<_, _≤_};
+ghost use Prim.Native.Nat.{_+_, _*_, _/_, _^_, _<_, _≤_};
 ghost use lib.ListN.{take, drop};
 ghost use Rattle.page.specs.Layout.{imaged, counts, entryOf, leafEntry};
 ghost use Rattle.page.specs.View.{entries};

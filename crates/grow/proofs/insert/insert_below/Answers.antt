@@ -1,5 +1,3 @@
-use mathlib.Core.Bool.{true}
-use Prim.Native.Nat.{_≤_, _<_}
 use native.Mathlib.Omega.{arith}
 use Rattle.std.proofs.shelf.Results.{cases-from-err}
 use Rattle.tree.proofs.Imaging.{few-entries}

@@ -1,9 +1,6 @@
-use mathlib.Core.Path.{_≡_, refl, sym, ap, subst, _∙_}
-use Prim.Native.Nat.{ℕ, _/_, _≤_, _<_}
+use mathlib.Core.Path.{refl}
 use native.Mathlib.Omega.{arith}
-use lib.ListN.{length}
 use Rattle.page.specs.Layout.{imaged, leafEntry}
-use Rattle.page.specs.View.{entries}
 use Rattle.page.proofs.Pages.{length-entries}
 use Rattle.grow.proofs.Settling.{in-one, in-both, fit-page, fit-half}
 use Rattle.grow.proofs.settle.settle_leaf.Needs as need

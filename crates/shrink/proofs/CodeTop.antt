@@ -1,11 +1,11 @@
 -- The top of a tree as code has it.
 use mathlib.Core.Path.{_≡_, refl, sym, ap, subst, _∙_}
-use mathlib.Core.List.{List, [], _∷_}
-use Prim.Native.Nat.{ℕ, zero, suc, _+_, _-_, _≤_, _<_}
+use mathlib.Core.List.{List, []}
+use Prim.Native.Nat.{ℕ, suc, _-_, _≤_, _<_}
 use native.Mathlib.Omega.{arith}
 use lib.ListN.{length, getD}
 use Rattle.std.specs.declared.option.Option.{Option}
-use Rattle.std.specs.declared.option.Option.the-variants.{Some, None}
+use Rattle.std.specs.declared.option.Option.the-variants.{Some}
 use Rattle.page.specs.declared.child.Child.{Child}
 use Rattle.page.specs.Layout.{Layout, Lawful}
 use Rattle.store.specs.Memory.{Memory, Stored, asked, released}
@@ -13,11 +13,11 @@ use Rattle.tree.specs.declared.top.Tree.{Tree}
 use Rattle.tree.specs.Pages.{pageAsks, Reading}
 use Rattle.tree.specs.Tree.{Sound}
 use Rattle.tree.specs.Paths.{none}
-use Rattle.seek.proofs.Readings.{reading-none, reading-asked, reading-left, reading-stored}
+use Rattle.seek.proofs.Readings.{reading-none, reading-asked}
 use Rattle.shrink.specs.Asks.{topAsks}
 use Rattle.shrink.specs.Deleting.{Topmost}
 use Rattle.shrink.specs.Shrinking.{Start, Climbing, Trimmed}
-use Rattle.shrink.proofs.Pairing.{stored-of}
+use Rattle.shrink.proofs.Topping.{stored-of}
 use Rattle.shrink.proofs.Topping as topping
 
 module _ {E : Type 0} (K : Layout E) (lw : Lawful K) (z : Start E) (t : Tree) (m : Memory) where
@@ -74,11 +74,12 @@ module _ {E : Type 0} (K : Layout E) (lw : Lawful K) (z : Start E) (t : Tree) (m
         code-node-stays n = as-code (z .top) (suc (suc h)) m₁ refl (omega (arith, v .level)) (topping.stays-node K lw z h m o node-climb (omega (arith, ap length same-kids)) m₁
             (record { times = r .times; few = omega (arith, r .few); is = r .is }))
 
-        pub code-small : (k : Child) → ((d : Child) → k ≡ getD kids 0 d) → length kids ≡ 1 → k .block < 1048576
-        code-small k e n = omega (arith, topping.only-small K lw z h m o node-climb (ap length same-kids ∙ n), ap (λ (x : Child). x .block) (e none), ap (λ (ks : List Child). getD ks 0 none .block) same-kids)
+        module _ (n : length kids ≡ 1) where
+          pub code-small : (d : Child) → getD kids 0 d .block < 1048576
+          code-small d = omega (arith, topping.only-small K lw z h m o node-climb (ap length same-kids ∙ n), ap (λ (ks : List Child). getD ks 0 none .block) same-kids, ap (λ (ks : List Child). getD ks 0 d .block) (topping.one-of kids n))
 
-        pub code-node-gone : (k : Child) → ((d : Child) → k ≡ getD kids 0 d) → length kids ≡ 1 → (m₂ : Memory) → m₂ ≡ released (t .root) m₁ → Trimmed K z (t .height - 1) (k .block) m₂
-        code-node-gone k e n m₂ q =
-            subst (λ (x : ℕ). Trimmed K z x (k .block) m₂) (omega arith)
-            (subst (λ (b : ℕ). Trimmed K z (suc h) b m₂) (sym (ap (λ (x : Child). x .block) (e none) ∙ ap (λ (ks : List Child). getD ks 0 none .block) (sym same-kids)))
-            (topping.taken-up K lw z h m o node-climb (ap length same-kids ∙ n) m₁ m₂ r (q ∙ ap (λ (b : ℕ). released b m₁) (sym (v .root)))))
+          pub code-node-gone : (t′ : Tree) → ((d : Child) → t′ .root ≡ getD kids 0 d .block) → t′ .height ≡ t .height - 1 → (m₂ : Memory) → m₂ ≡ released (t .root) m₁ → Trimmed K z (t′ .height) (t′ .root) m₂
+          code-node-gone t′ e eh m₂ q =
+              subst (λ (x : ℕ). Trimmed K z x (t′ .root) m₂) (omega arith)
+              (subst (λ (b : ℕ). Trimmed K z (suc h) b m₂) (sym (e none ∙ ap (λ (ks : List Child). getD ks 0 none .block) (sym same-kids)))
+              (topping.taken-up K lw z h m o node-climb (ap length same-kids ∙ n) m₁ m₂ r (q ∙ ap (λ (b : ℕ). released b m₁) (sym (v .root)))))

@@ -1,7 +1,7 @@
 -- A turn of the climb as code has it.
-use mathlib.Core.Path.{_≡_, refl, sym, ap, subst, _∙_}
+use mathlib.Core.Path.{_≡_, sym, ap, subst, _∙_}
 use mathlib.Core.Bool.{Bool}
-use mathlib.Core.List.{List, [], _∷_, _++_}
+use mathlib.Core.List.{List, _∷_, _++_}
 use mathlib.Core.Logic.{_⊎_, inl, inr}
 use Prim.Native.Nat.{ℕ, zero, suc, _+_, _-_, _≤_, _<_}
 use native.Mathlib.Omega.{arith}
@@ -9,20 +9,19 @@ use native.Mathlib.Numerals.{add-one}
 use lib.ListN.{length, getD, set, take, drop}
 use Rattle.std.proofs.shelf.Lists.{set-split}
 use Rattle.std.specs.declared.option.Option.{Option}
-use Rattle.std.specs.declared.option.Option.the-variants.{Some, None}
+use Rattle.std.specs.declared.option.Option.the-variants.{Some}
 use Rattle.page.specs.declared.child.Child.{Child}
 use Rattle.page.specs.Layout.{Layout, Lawful}
 use Rattle.store.specs.Memory.{Memory, Stored}
 use Rattle.tree.specs.Pages.{pageAsks, Reading}
-use Rattle.tree.specs.Tree.{Sound, ChildOk}
+use Rattle.tree.specs.Tree.{ChildOk}
 use Rattle.tree.specs.Paths.{Branch, none}
-use Rattle.seek.proofs.Readings.{reading-left}
 use Rattle.shrink.specs.Asks.{shareAsks, turnAsks}
 use Rattle.shrink.specs.Sharing.{Neighbours, Shared}
 use Rattle.shrink.specs.Shrinking.{Start, Climbing, Ready}
 use Rattle.shrink.specs.Turning.{Site, Next, Below, Mended}
 use Rattle.shrink.proofs.Opening as opening
-use Rattle.shrink.proofs.Pairing.{stored-of}
+use Rattle.shrink.proofs.Topping.{stored-of}
 use Rattle.shrink.proofs.Turning as turning
 
 -- neighbours at the entries of a node

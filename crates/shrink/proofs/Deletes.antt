@@ -1,20 +1,20 @@
 -- A deletion as code has it: the path down, the leaf, the climb and the top.
-use mathlib.Core.Path.{_≡_, refl, sym, ap, subst, _∙_}
+use mathlib.Core.Path.{_≡_, refl, ap, subst, _∙_}
 use mathlib.Core.Bool.{false}
-use mathlib.Core.List.{List, [], _∷_, _++_}
-use Prim.Native.Nat.{ℕ, zero, suc, _+_, _-_, _*_, _^_, _≤_, _<_}
+use mathlib.Core.List.{List, [], _++_}
+use Prim.Native.Nat.{ℕ, suc, _+_, _-_, _*_, _≤_, _<_}
 use native.Mathlib.Omega.{arith}
 use lib.ListN.{length, getD, take, drop, length-append, length-take, length-drop}
 use Rattle.std.specs.declared.option.Option.{Option}
 use Rattle.page.specs.declared.child.Child.{Child}
 use Rattle.page.specs.Layout.{Layout, Lawful, leafEntry}
 use Rattle.store.specs.Memory.{Memory}
-use Rattle.store.specs.Steps.{Mem, held}
+use Rattle.store.specs.Steps.{Mem}
 use Rattle.store.proofs.Running.{ran-as}
 use Rattle.tree.specs.declared.top.Tree.{Tree}
 use Rattle.tree.specs.Pages.{pageAsks, Reading}
-use Rattle.tree.specs.Tree.{contents, uses}
-use Rattle.tree.specs.Trees.{holds, owns, Lies}
+use Rattle.tree.specs.Tree.{contents}
+use Rattle.tree.specs.Trees.{holds, Lies}
 use Rattle.seek.specs.declared.reached.Reached.{Reached}
 use Rattle.seek.specs.Asks.{descendAsks}
 use Rattle.seek.specs.Descent.{nodes, Descended}
@@ -88,3 +88,11 @@ module _ {E : Type 0} (K : Layout E) (lw : Lawful K) (wide : 20 ≤ K .nodeCap) 
       stands = v .stands;
       item = λ y. ex y ∙ ap (λ (ys : List E). getD ys (r .at) y) e ∙ leaf-item K m m₁ t p r d y;
     }
+
+-- the tree that is left lies in the memory
+pub deleted-lies : {E : Type 0} (K : Layout E) (i : ℕ) (t t′ : Tree) (m m′ : Memory) (x : E) → Deleted K i t m t′ x m′ → Lies K m t → Lies K m′ t′
+deleted-lies K i t t′ m m′ x d l = record {
+  stands = d .stands;
+  once = λ c. omega (arith, d .ran .step .balanced c, l .once c);
+  number = omega (arith, d .ran .number, l .number);
+}

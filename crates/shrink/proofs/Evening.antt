@@ -2,12 +2,15 @@
 use mathlib.Core.Path.{_≡_, refl, sym, ap, ap₂, subst, _∙_}
 use mathlib.Core.Bool.{Bool, true, false}
 use mathlib.Core.List.{List, [], _∷_, _++_, append-nil}
-use Prim.Native.Nat.{ℕ, _+_, _*_, _/_, _≤_, _<_}
+use Prim.Native.Nat.{ℕ, _+_, _*_, _≤_, _<_}
 use native.Mathlib.Omega.{arith}
 use native.Mathlib.Nat.{mul-le-mul-right}
-use lib.ListN.{length, getD, length-append}
+use lib.ListN.{length, getD}
+use Rattle.std.specs.Options.{Cases}
+use Rattle.std.specs.declared.option.Option.{Option}
+use Rattle.std.specs.declared.option.Option.the-variants.{Some, None}
 use Rattle.page.specs.Layout.{half}
-use Rattle.store.specs.Memory.{Memory, Stored, asked, released}
+use Rattle.store.specs.Memory.{Memory, Stored, released}
 use Rattle.store.specs.Steps.{Mem, Ran, hit, held}
 use Rattle.store.proofs.Sums.{hit-same}
 use Rattle.store.proofs.Stepping.{at-other}
@@ -28,8 +31,12 @@ module _ (merged : Bool) (cap l r l′ r′ : ℕ) (fl : l ≤ cap) (fr : r ≤ 
       go true p q = p refl .1
       go false p q = omega (arith, q refl .1)
 
-  pub right-few : merged ≡ false → r′ ≤ cap
-  right-few e = omega (arith, two e .1, two e .2)
+  pub right-most : r′ ≤ cap
+  right-most = go merged one two
+    where
+      go : (x : Bool) → (x ≡ true → (r′ ≡ 0) × (l′ ≤ cap)) → (x ≡ false → (cap < l′ + r′) × (l′ ≤ r′) × (r′ ≤ l′ + 1)) → r′ ≤ cap
+      go true p q = omega (arith, p refl .0)
+      go false p q = omega (arith, q refl .1, q refl .2)
 
   pub both-full : merged ≡ false → (half cap ≤ l′) × (half cap ≤ r′)
   both-full e = (omega (arith, two e .0, two e .1, two e .2), omega (arith, two e .0, two e .1, two e .2))
@@ -91,6 +98,15 @@ module _ {X : Type 0} (read : List ℕ → List X) (cap a b : ℕ) (m m₁ m₂ 
         (ran-as pageAsks _ _ m₃ m₄ (ran-beside pageAsks (hit b) (hit b) m₃ m₄ (w₄ .ran) (hit a)) _ _ (λ c. omega arith) (λ c. omega arith)))
         shareAsks (omega (arith, both .few));
   }
+
+  -- the right page was kept, or its block released
+  pub code-even : {P : Type 0} (view : P → List X) (merged : Bool) (page : P) (o : Option P) (m₄ : Memory) → 0 < m .many
+      → (merged ≡ true → (o ≡ None) × (m₄ ≡ released b m₃)) → (merged ≡ false → (o ≡ Some page) × Writing pageAsks read b (view page) m₃ m₄)
+      → (merged ≡ true → (xs ≡ read (m .block a) ++ read (m .block b)) × (length xs ≤ cap))
+      → (merged ≡ false → (xs ++ view page ≡ read (m .block a) ++ read (m .block b)) × ((length xs ≤ cap) × (length (view page) ≤ cap)) × ((half cap ≤ length xs) × (half cap ≤ length (view page))))
+      → Cases o (InOne read shareAsks cap a b m xs m₄) (λ r. InTwo read shareAsks cap a b m xs (view r) m₄)
+  code-even {P} view true page o m₄ l p q s t = subst (λ (x : Option P). Cases x (InOne read shareAsks cap a b m xs m₄) (λ r. InTwo read shareAsks cap a b m xs (view r) m₄)) (sym (p refl .0)) (in-one m₄ (p refl .1) l (s refl .0) (s refl .1))
+  code-even {P} view false page o m₄ l p q s t = subst (λ (x : Option P). Cases x (InOne read shareAsks cap a b m xs m₄) (λ r. InTwo read shareAsks cap a b m xs (view r) m₄)) (sym (q refl .0)) (in-two (view page) m₄ (q refl .1) (t refl .0) (t refl .1) (t refl .2))
 
 -- what is read by one name is read by another
 module _ {X : Type 0} (read read′ : List ℕ → List X) (same : (ws : List ℕ) → read′ ws ≡ read ws) (k cap a b : ℕ) (m : Memory) where

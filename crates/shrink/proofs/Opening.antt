@@ -1,9 +1,9 @@
 -- A node on the path: what is below it is as it was, but for the child that the path takes.
-use mathlib.Core.Path.{_≡_, refl, sym, ap, subst, _∙_}
+use mathlib.Core.Path.{_≡_, sym, ap, subst, _∙_}
 use mathlib.Core.List.{List, [], _∷_, _++_, append-assoc}
-use Prim.Native.Nat.{ℕ, suc, _+_, _*_, _≤_, _<_}
+use Prim.Native.Nat.{ℕ, suc, _+_, _≤_, _<_}
 use native.Mathlib.Omega.{arith}
-use lib.ListN.{length, length-append}
+use lib.ListN.{length}
 use Rattle.std.specs.declared.option.Option.{Option}
 use Rattle.page.specs.declared.child.Child.{Child}
 use Rattle.page.specs.Layout.{Layout, Lawful}
@@ -11,15 +11,14 @@ use Rattle.store.specs.Memory.{Memory, Stored}
 use Rattle.store.specs.Steps.{Mem, Ran, Same, hit, held, heldIn}
 use Rattle.store.proofs.Sums.{hit-same}
 use Rattle.store.proofs.Stepping.{step-same}
-use Rattle.store.proofs.Running.{ran-as, ran-beside, ran-part}
-use Rattle.tree.specs.Pages.{pageAsks}
+use Rattle.store.proofs.Running.{ran-as, ran-beside}
 use Rattle.tree.specs.Tree.{total, flat, All, contents, uses, many, low, least, Sound, contentsOf, usesOf, ChildOk, ChildrenOk, Root}
 use Rattle.tree.specs.Paths.{Branch, left, right, Path, before, behind, around, Seen}
-use Rattle.tree.proofs.Each.{flat-++, total-++, All-++, All-left, All-right}
+use Rattle.tree.proofs.Each.{flat-++, total-++, All-left, All-right}
 use Rattle.tree.proofs.Frames.{KeptAll, frame-all}
 use Rattle.tree.proofs.Paths.{around-child, child, node-child, node-uses, seen}
-use Rattle.shrink.specs.Asks.{turnAsks, topAsks}
-use Rattle.shrink.specs.Shrinking.{Start, Starts, Climbing, Ready}
+use Rattle.shrink.specs.Asks.{turnAsks}
+use Rattle.shrink.specs.Shrinking.{Start, Climbing}
 
 module _ {E : Type 0} (K : Layout E) (lw : Lawful K) where
   -- a node on a path has two children at least

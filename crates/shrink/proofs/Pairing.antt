@@ -1,15 +1,14 @@
 -- Neighbours as code has them: pages that are read by their words, and entries that are made of them.
-use mathlib.Core.Path.{_≡_, refl, sym, ap, subst, _∙_}
-use mathlib.Core.List.{List, [], _∷_, _++_}
-use Prim.Native.Nat.{ℕ, zero, suc, _+_, _*_, _^_, _≤_, _<_}
+use mathlib.Core.Path.{_≡_, refl, sym, ap, subst}
+use mathlib.Core.List.{List, _++_}
+use Prim.Native.Nat.{ℕ, zero, suc, _+_, _*_, _≤_, _<_}
 use native.Mathlib.Omega.{arith}
 use lib.ListN.{length, getD, length-append}
 use Rattle.std.specs.Options.{Cases}
 use Rattle.std.specs.declared.option.Option.{Option}
 use Rattle.std.specs.declared.option.Option.the-variants.{Some, None}
 use Rattle.page.specs.declared.child.Child.{Child}
-use Rattle.page.specs.Layout.{Layout, Lawful, half, imaged, counts, entryOf, leafEntry}
-use Rattle.page.proofs.Counts.{counts-append}
+use Rattle.page.specs.Layout.{Layout, Lawful, half, imaged, entryOf, leafEntry}
 use Rattle.store.specs.Memory.{Memory, Stored}
 use Rattle.store.specs.Steps.{Mem, hit}
 use Rattle.tree.specs.Climb.{oneOrTwo}
@@ -18,8 +17,8 @@ use Rattle.seek.proofs.Imaged.{first-word}
 use Rattle.shrink.specs.Asks.{shareAsks}
 use Rattle.shrink.specs.Sharing.{InOne, InTwo, Neighbours, Shared}
 use Rattle.shrink.proofs.Evening.{two-blocks, in-one-as, in-two-as}
-use Rattle.shrink.proofs.Sharing.{leaves-one, leaves-two, nodes-one, nodes-two, counts-both}
-use Rattle.shrink.proofs.Topping.{some-held}
+use Rattle.shrink.proofs.Sharing.{leaves-one, leaves-two, nodes-one, nodes-two}
+use Rattle.shrink.proofs.Topping.{some-held, stored-of}
 
 pub case-some : {P : Type 0} (A : Type 0) (B : P → Type 0) (o : Option P) (r : P) → o ≡ Some r → Cases o A B → B r
 case-some {P} A B o r e x = subst (λ (y : Option P). Cases y A B) e x
@@ -43,21 +42,16 @@ module _ {E : Type 0} (K : Layout E) where
   hit-uses zero f b c = omega arith
   hit-uses (suc h) f b c = omega arith
 
-  pub stored-of : (h : ℕ) (f : Mem) (b : ℕ) → Sound K h f b → Stored f b
-  unfolding Sound
-  stored-of zero f b s = s .0
-  stored-of (suc h) f b s = s .0
-
   module _ (h a b : ℕ) (m : Memory) (n : Neighbours K h a b m) (w cap : ℕ) where
     apart-of : getD (m .block a) 0 0 ≤ cap → getD (m .block b) 0 0 ≤ cap → cap * w ≤ 62 → Apart w cap a b m
     apart-of fa fb room = record {
-      left = stored-of h (m .block) a (n .first);
-      right = stored-of h (m .block) b (n .second);
-      apart = two-blocks a b (m .block) _ _ (stored-of h (m .block) a (n .first)) (hit-uses h (m .block) a) (hit-uses h (m .block) b) (n .apart);
+      left = stored-of K h (m .block) a (n .first);
+      right = stored-of K h (m .block) b (n .second);
+      apart = two-blocks a b (m .block) _ _ (stored-of K h (m .block) a (n .first)) (hit-uses h (m .block) a) (hit-uses h (m .block) b) (n .apart);
       left-few = fa;
       right-few = fb;
       room = room;
-      held = some-held m a (stored-of h (m .block) a (n .first)) (n .number);
+      held = some-held m a (stored-of K h (m .block) a (n .first)) (n .number);
     }
 
   pub leaves-apart : (dec : List ℕ → E) (w cap a b : ℕ) (m : Memory) → ((ws : List ℕ) → K .items ws ≡ imaged w dec ws) → K .leafCap * w ≤ 62 → cap ≡ K .leafCap → Neighbours K 0 a b m → Apart w cap a b m

@@ -1,12 +1,11 @@
 -- A page is written, and what stands above it is made of it.
-use mathlib.Core.Path.{_≡_, subst}
+use mathlib.Core.Path.{_≡_}
 use mathlib.Core.List.{List}
 use Prim.Native.Nat.{ℕ, _+_, _/_, _≤_, _<_}
 use native.Mathlib.Omega.{arith}
 use lib.ListN.{length}
 use Rattle.std.specs.declared.option.Option.the-variants.{Some, None}
 use Rattle.page.specs.declared.child.Child.{Child}
-use Rattle.page.specs.Layout.{half}
 use Rattle.store.specs.Memory.{Memory}
 use Rattle.tree.specs.Pages.{pageAsks, Writing}
 use Rattle.shrink.specs.Putting.{Put}

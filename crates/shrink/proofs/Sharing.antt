@@ -1,20 +1,20 @@
 -- Two neighbours whose entries were put onto one page, or evenly onto both.
-use mathlib.Core.Path.{_≡_, refl, sym, ap, subst, _∙_}
-use mathlib.Core.List.{List, [], _∷_, _++_, append-assoc, append-nil}
-use Prim.Native.Nat.{ℕ, suc, _+_, _*_, _^_, _≤_, _<_}
+use mathlib.Core.Path.{_≡_, sym, ap, subst, _∙_}
+use mathlib.Core.List.{List, [], _∷_, _++_, append-nil}
+use Prim.Native.Nat.{ℕ, suc, _+_, _^_, _≤_, _<_}
 use native.Mathlib.Omega.{arith}
 use lib.ListN.{length, length-append}
 use Rattle.std.specs.declared.option.Option.the-variants.{Some, None}
 use Rattle.page.specs.declared.child.Child.{Child}
 use Rattle.page.specs.Layout.{Layout, Lawful, half, counts, entryOf, leafEntry}
-use Rattle.store.specs.Memory.{Memory, Stored}
-use Rattle.store.specs.Steps.{Mem, Ran, Same, Step, hit, held}
+use Rattle.store.specs.Memory.{Memory}
+use Rattle.store.specs.Steps.{Mem, Ran, Step, hit, held}
 use Rattle.store.proofs.Stepping.{step-as, step-same}
 use Rattle.tree.specs.Climb.{oneOrTwo}
 use Rattle.tree.specs.Tree.{total, flat, All, contents, uses, many, low, Sound, contentsOf, usesOf, ChildOk, ChildrenOk, under}
 use Rattle.tree.specs.Rising.{Repaged}
-use Rattle.tree.proofs.Each.{flat-++, total-++, All-++, All-left, All-right}
-use Rattle.tree.proofs.Frames.{KeptAll, frame-all}
+use Rattle.tree.proofs.Each.{flat-++, All-++, All-left, All-right}
+use Rattle.tree.proofs.Frames.{frame-all}
 use Rattle.tree.proofs.Levels.{uses-under}
 use Rattle.tree.proofs.Entries.{counts-right}
 use Rattle.tree.proofs.Leaves.{one-leaf}

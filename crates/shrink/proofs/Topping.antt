@@ -1,18 +1,18 @@
 -- The end of the climb: the root stays, its one child is the root, or nothing is left.
 use mathlib.Core.Path.{_≡_, refl, sym, ap, subst, _∙_}
-use mathlib.Core.List.{List, [], _∷_, _++_, append-nil}
-use Prim.Native.Nat.{ℕ, zero, suc, _+_, _*_, _≤_, _<_}
+use mathlib.Core.List.{List, [], _∷_, append-nil}
+use Prim.Native.Nat.{ℕ, zero, suc, _+_, _≤_, _<_}
 use native.Mathlib.Omega.{arith}
 use lib.ListN.{length, getD}
 use Rattle.std.specs.declared.option.Option.{Option}
-use Rattle.std.specs.declared.option.Option.the-variants.{Some, None}
+use Rattle.std.specs.declared.option.Option.the-variants.{Some}
 use Rattle.page.specs.declared.child.Child.{Child}
 use Rattle.page.specs.Layout.{Layout, Lawful}
 use Rattle.store.specs.Memory.{Memory, Stored, asked, released}
-use Rattle.store.specs.Steps.{Mem, Ran, Same, hit, held, heldIn}
+use Rattle.store.specs.Steps.{Mem, Ran, hit, held, heldIn}
 use Rattle.store.proofs.Sums.{at-sumTo}
 use Rattle.store.proofs.Stepping.{step-same}
-use Rattle.store.proofs.Running.{ran-as, ran-part, ran-then, ran-asked, ran-more, ran-release, ran-beside, stored-held}
+use Rattle.store.proofs.Running.{ran-as, ran-part, ran-then, ran-asked, ran-more, ran-release, stored-held}
 use Rattle.tree.specs.Pages.{pageAsks, Reading}
 use Rattle.tree.specs.Tree.{total, flat, All, contents, uses, many, low, least, Sound, Root, Kept, ChildOk}
 use Rattle.tree.specs.Paths.{Path, before, behind, none}
@@ -26,21 +26,22 @@ use Rattle.shrink.specs.Shrinking.{Start, Climbing, Trimmed}
 pub some-held : (m : Memory) (b : ℕ) → Stored (m .block) b → m .many ≡ heldIn (m .block) → 0 < m .many
 some-held m b s e = omega (arith, at-sumTo 1048576 b (held (m .block)) (s .0), stored-held (m .block) b s)
 
-one-of : (xs : List Child) → length xs ≡ 1 → xs ≡ getD xs 0 none ∷ []
+pub one-of : (xs : List Child) → length xs ≡ 1 → xs ≡ getD xs 0 none ∷ []
 one-of [] e = absurd (omega arith)
 one-of (x ∷ []) e = refl
 one-of (x ∷ (y ∷ ys)) e = absurd (omega arith)
+
+-- a page that is sound is held
+pub stored-of : {E : Type 0} (K : Layout E) (h : ℕ) (f : Mem) (b : ℕ) → Sound K h f b → Stored f b
+unfolding Sound
+stored-of K zero f b s = s .0
+stored-of K (suc h) f b s = s .0
 
 module _ {E : Type 0} (K : Layout E) (lw : Lawful K) (z : Start E) where
   least-low : (h : ℕ) → least K h ≤ low K h
   unfolding least low
   least-low zero = omega (arith, lw .leaf-room)
   least-low (suc h) = omega (arith, lw .node-room)
-
-  pub stored-of : (h : ℕ) (f : Mem) (b : ℕ) → Sound K h f b → Stored f b
-  unfolding Sound
-  stored-of zero f b s = s .0
-  stored-of (suc h) f b s = s .0
 
   module _ (h : ℕ) (m : Memory) (o : Option Child) (v : Climbing K z h [] m o) where
     abbrev g : Mem
@@ -117,7 +118,7 @@ module _ {E : Type 0} (K : Layout E) (lw : Lawful K) (z : Start E) where
       only-ok = subst (All (ChildOk K h (m .block))) (one-of kids e) (sound-top (suc h) m o v .2) .0
 
       pub only-small : only .block < 1048576
-      only-small = stored-of h (m .block) (only .block) (only-ok .sound) .0
+      only-small = stored-of K h (m .block) (only .block) (only-ok .sound) .0
 
       root-uses : (c : ℕ) → uses K (suc h) (m .block) (z .top) c ≡ hit (z .top) c + uses K h (m .block) (only .block) c
       unfolding uses total

@@ -2,26 +2,26 @@
 use mathlib.Core.Path.{_≡_, refl, sym, ap, subst, _∙_}
 use mathlib.Core.List.{List, [], _∷_, _++_, append-assoc, append-nil}
 use mathlib.Core.Logic.{_⊎_, inl, inr}
-use Prim.Native.Nat.{ℕ, suc, _+_, _*_, _^_, _≤_, _<_}
+use Prim.Native.Nat.{ℕ, suc, _+_, _≤_, _<_}
 use native.Mathlib.Omega.{arith}
 use lib.ListN.{length, getD, take, drop, length-append}
 use lib.Seq.{take-suc, drop-cons}
 use Rattle.std.specs.declared.option.Option.{Option}
-use Rattle.std.specs.declared.option.Option.the-variants.{Some, None}
+use Rattle.std.specs.declared.option.Option.the-variants.{Some}
 use Rattle.page.specs.declared.child.Child.{Child}
 use Rattle.page.specs.Layout.{Layout, Lawful}
-use Rattle.store.specs.Memory.{Memory, Stored, asked}
-use Rattle.store.specs.Steps.{Mem, Ran, Same, hit, held}
+use Rattle.store.specs.Memory.{Memory, asked}
+use Rattle.store.specs.Steps.{Mem, Ran, Same, hit}
 use Rattle.store.proofs.Sums.{hit-same}
 use Rattle.store.proofs.Stepping.{step-same}
-use Rattle.store.proofs.Running.{ran-as, ran-part, ran-then, ran-asked, ran-more}
+use Rattle.store.proofs.Running.{ran-as, ran-part, ran-then, ran-asked}
 use Rattle.tree.specs.Pages.{pageAsks, Reading}
 use Rattle.tree.specs.Tree.{total, flat, All, contents, uses, many, low, Sound, contentsOf, usesOf, ChildOk, ChildrenOk}
 use Rattle.tree.specs.Paths.{Branch, none, left, right, before, behind}
 use Rattle.tree.proofs.Each.{flat-++, total-++, All-++, All-left, All-right}
 use Rattle.tree.proofs.Frames.{KeptAll, frame-all}
 use Rattle.tree.proofs.Paths.{around-child, child}
-use Rattle.shrink.specs.Asks.{shareAsks, turnAsks, topAsks}
+use Rattle.shrink.specs.Asks.{shareAsks}
 use Rattle.shrink.specs.Sharing.{Neighbours, Shared}
 use Rattle.shrink.specs.Shrinking.{Start, Climbing, Ready}
 use Rattle.shrink.proofs.Opening as opening

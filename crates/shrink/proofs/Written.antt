@@ -1,6 +1,6 @@
 -- A page is written, and the climb is one level further up, or begins.
 use mathlib.Core.Path.{_≡_, refl, sym, ap, subst, _∙_}
-use mathlib.Core.List.{List, [], _∷_, _++_}
+use mathlib.Core.List.{List, _++_}
 use Prim.Native.Nat.{ℕ, suc, _+_, _*_, _^_, _≤_, _<_}
 use native.Mathlib.Omega.{arith}
 use lib.ListN.{length, take, drop, length-append}
@@ -9,13 +9,13 @@ use Rattle.std.specs.declared.option.Option.{Option}
 use Rattle.std.specs.declared.option.Option.the-variants.{Some, None}
 use Rattle.page.specs.declared.child.Child.{Child}
 use Rattle.page.specs.Layout.{Layout, Lawful, half, counts, entryOf, leafEntry}
-use Rattle.store.specs.Memory.{Memory, Stored, asked}
-use Rattle.store.specs.Steps.{Mem, Ran, hit, held}
+use Rattle.store.specs.Memory.{Memory, Stored}
+use Rattle.store.specs.Steps.{Mem, Ran, hit}
 use Rattle.store.proofs.Stepping.{step-as}
 use Rattle.store.proofs.Running.{ran-as, ran-part, ran-then, ran-asked, ran-more}
 use Rattle.tree.specs.Pages.{pageAsks, Reading, Writing}
 use Rattle.tree.specs.Tree.{contents, uses, many, low, Sound, contentsOf, usesOf, ChildOk, ChildrenOk}
-use Rattle.tree.specs.Paths.{Branch, Path, before, behind}
+use Rattle.tree.specs.Paths.{Branch, before, behind}
 use Rattle.tree.specs.Roots.{Rooted}
 use Rattle.tree.specs.Down.{Down}
 use Rattle.tree.proofs.Writing.{stored-after, wrote-reads}

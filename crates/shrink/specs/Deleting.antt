@@ -1,7 +1,7 @@
 -- An item leaves a tree.
 -- Assumes nothing.
 use mathlib.Core.Path.{_≡_}
-use mathlib.Core.List.{List, [], _++_}
+use mathlib.Core.List.{[], _++_}
 use Prim.Native.Nat.{ℕ, suc, _+_}
 use lib.ListN.{getD, take, drop}
 use Rattle.std.specs.declared.option.Option.{Option}

@@ -1,7 +1,7 @@
 // An item leaves a tree: a page that is too empty is put together with a neighbour, or shares with it.
-pub mod climb;
+mod climb;
 pub mod delete;
 pub mod put;
 pub mod share;
-pub mod trim;
-pub mod turn;
+mod trim;
+mod turn;

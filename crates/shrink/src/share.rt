@@ -1,11 +1,14 @@
 // Two neighbours of which one is too empty: their entries go onto one page, or evenly onto both.
 ghost use mathlib.Core.Path.{_≡_};
+ghost use mathlib.Core.Bool.{true, false};
 ghost use Prim.Native.Nat.{ℕ, suc, _*_, _<_, _≤_};
 ghost use lib.ListN.{getD};
 ghost use Rattle.std.specs.Options.{Cases as BySome};
+ghost use Rattle.std.specs.declared.option.Option.the-variants.{Some, None};
 ghost use Rattle.page.specs.Layout.{imaged};
 ghost use Rattle.page.specs.View.{entries};
-ghost use Rattle.store.specs.Memory.{Stored};
+ghost use Rattle.store.specs.Memory.{Stored, released};
+ghost use Rattle.tree.specs.Pages.{pageAsks, Writing};
 ghost use Rattle.shrink.specs.Asks.{shareAsks};
 ghost use Rattle.tree.specs.Climb.{oneOrTwo};
 ghost use Rattle.shrink.specs.Sharing.{InOne, InTwo, Neighbours, Shared};
@@ -19,6 +22,27 @@ use page::summary::node_entry;
 use store::Store;
 use tree::pages::load_page;
 use tree::pages::store_page;
+
+// The page goes to block b; but where it was merged into another, the block is given back.
+fn keep_or_release<C: Codec, W: Store<M>, M>(
+    m: &mut M,
+    b: u32,
+    page: Page<C>,
+    merged: bool,
+) -> Option<Page<C>>
+    requires asks { ⌜ pageAsks ≤ memory (now m) .left ⌝ }
+    requires there { ⌜ Stored (memory (now m) .block) b ⌝ }
+    requires fits { ⌜ page .len * C·Codec .width ≤ 62 ⌝ }
+    ensures released { λ r. ⌜ (merged ≡ true → (r ≡ None) × (memory (now (m .exit)) ≡ released b (memory (now (m .entry))))) ⌝ }
+    ensures kept { λ r. ⌜ (merged ≡ false → (r ≡ Some page) × Writing pageAsks (imaged (C·Codec .width) (C·Codec .decode)) b (entries (C·Codec .width) (C·Codec .decode) page) (memory (now (m .entry))) (memory (now (m .exit)))) ⌝ }
+{
+    if merged {
+        W::release(m, b);
+        return None;
+    }
+    store_page::<C, W, M>(m, b, &page);
+    Some(page)
+}
 
 // The pages at blocks a and b, neighbours, become one at a, and b is given back; or two that are half full.
 fn even<C: Codec, W: Store<M>, M>(
@@ -41,12 +65,8 @@ fn even<C: Codec, W: Store<M>, M>(
     let mut right = load_page::<C, W, M>(m, b);
     let merged = left.even_out(&mut right, most);
     store_page::<C, W, M>(m, a, &left);
-    if merged {
-        W::release(m, b);
-        return (left, None);
-    }
-    store_page::<C, W, M>(m, b, &right);
-    (left, Some(right))
+    let right = keep_or_release::<C, W, M>(m, b, right, merged);
+    (left, right)
 }
 
 // Of leaves: what stands above them then.

@@ -1,11 +1,15 @@
 // The top of a tree after a climb: a node with one child goes, and so does an empty leaf.
 ghost use mathlib.Core.Path.{_≡_};
-ghost use Prim.Native.Nat.{_≤_};
+ghost use Prim.Native.Nat.{_-_, _^_, _<_, _≤_};
+ghost use lib.ListN.{getD};
 ghost use Rattle.std.specs.declared.option.Option.the-variants.{None};
+ghost use Rattle.page.specs.declared.child.Child.{Child};
+ghost use Rattle.page.specs.View.{entries};
 ghost use Rattle.shrink.specs.Deleting.{Topmost};
 ghost use Rattle.shrink.specs.Shrinking.{Start, Trimmed};
 use page::child::Child;
 use page::kind::Kind;
+use page::page::Page;
 use seek::nodes::load_node;
 use store::Store;
 use tree::top::Tree;
@@ -23,6 +27,20 @@ fn trim_leaf<K: Kind, W: Store<M>, M>(m: &mut M, t: Tree) -> Tree
     Tree { root: 0, height: 0 }
 }
 
+// The tree below a root with one child.
+fn only_child<K: Kind>(t: Tree, page: &Page<K::Node>) -> Tree
+    requires tall { ⌜ 0 < t .height ⌝ }
+    requires some { ⌜ 0 < now page .len ⌝ }
+    requires small { ⌜ ((d : Child) → getD (entries (Node·Codec .width) (Node·Codec .decode) (now page)) 0 d .block < 2 ^ 32) ⌝ }
+    ensures root { λ r. ⌜ ((d : Child) → r .root ≡ getD (entries (Node·Codec .width) (Node·Codec .decode) (now (page .entry))) 0 d .block) ⌝ }
+    ensures height { λ r. ⌜ r .height ≡ t .height - 1 ⌝ }
+{
+    Tree {
+        root: page.get(0).block as u32,
+        height: t.height - 1,
+    }
+}
+
 // A node.
 fn trim_node<K: Kind, W: Store<M>, M>(m: &mut M, t: Tree) -> Tree
     requires height { ⌜ 2 ≤ t .height ⌝ }
@@ -34,10 +52,7 @@ fn trim_node<K: Kind, W: Store<M>, M>(m: &mut M, t: Tree) -> Tree
         return t;
     }
     W::release(m, t.root);
-    Tree {
-        root: page.get(0).block as u32,
-        height: t.height - 1,
-    }
+    only_child::<K>(t, &page)
 }
 
 // A root that is full enough for a page below others stays.

@@ -1,9 +1,9 @@
 // A level of the climb: what is below a node is put right, and the node is written.
 ghost use mathlib.Core.Path.{_≡_};
 ghost use mathlib.Core.List.{_++_};
-ghost use Prim.Native.Nat.{ℕ, suc, _+_, _<_, _≤_};
+ghost use Prim.Native.Nat.{ℕ, suc, _+_, _-_, _<_, _≤_};
 ghost use lib.Dec.{T};
-ghost use lib.ListN.{getD, take, drop};
+ghost use lib.ListN.{getD, set, take, drop};
 ghost use Rattle.page.specs.View.{entries};
 ghost use Rattle.tree.specs.Climb.{oneOrTwo};
 ghost use Rattle.tree.specs.Paths.{none};
@@ -45,6 +45,22 @@ fn mend<K: Kind, W: Store<M>, M>(m: &mut M, leaves: bool, page: &mut Page<K::Nod
     replace_two::<K>(page, at, one, two);
 }
 
+// Of a child that is too empty and the neighbour that it shares with, the left one: the neighbour on the left, or the first child.
+fn left_of(place: u32) -> usize
+    ensures { λ r. ⌜ r ≡ place - 1 ⌝ }
+{
+    place.saturating_sub(1) as usize
+}
+
+// What stands above the child at `place` now.
+fn enter<K: Kind>(page: &mut Page<K::Node>, place: u32, entry: Child)
+    requires there { ⌜ place < now page .len ⌝ }
+    requires valid { ⌜ T (Node·Codec .valid entry) ⌝ }
+    ensures { λ _. ⌜ entries (Node·Codec .width) (Node·Codec .decode) (now (page .exit)) ≡ set (entries (Node·Codec .width) (Node·Codec .decode) (now (page .entry))) place entry ⌝ }
+{
+    page.replace(place as usize, entry);
+}
+
 // The node at `block`, with what is below it put right: the child at `place` changed.
 fn put_right<K: Kind, W: Store<M>, M>(
     m: &mut M,
@@ -59,11 +75,11 @@ fn put_right<K: Kind, W: Store<M>, M>(
     let mut page = load_node::<K, W, M>(m, block);
     match risen {
         Some(entry) => {
-            page.replace(place as usize, entry);
+            enter::<K>(&mut page, place, entry);
             page
         }
         None => {
-            mend::<K, W, M>(m, leaves, &mut page, place.saturating_sub(1) as usize);
+            mend::<K, W, M>(m, leaves, &mut page, left_of(place));
             page
         }
     }

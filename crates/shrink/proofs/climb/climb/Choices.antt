@@ -1,4 +1,3 @@
-use mathlib.Core.Bool.{Bool}
 use Prim.Native.Nat.{_-_}
 use Rattle.seek.specs.Descent.{nodes}
 use Rattle.tree.specs.Climb.{branches}

@@ -1,6 +1,4 @@
-use mathlib.Core.Path.{_≡_, sym, ap, _∙_}
 use mathlib.Core.Bool.{false}
-use Prim.Native.Nat.{_≤_, _<_}
 use native.Mathlib.Omega.{arith}
 use Rattle.page.proofs.Images.{few-entries}
 use Rattle.seek.proofs.Landing.{leaf-stored, leaf-few, leaf-inside, leaf-asks}
@@ -25,8 +23,8 @@ load-leaf-page-requires g c κs =
     let d = c .descend-reached .ensures in
     record { asks = leaf-asks K _ _ _ _ false _ d _ (omega (arith, c .pre .asks)); there = leaf-stored K _ _ _ _ false _ d; few = leaf-few K _ _ _ _ false _ d }
 
-pub remove-item-requires : need.remove-item-requires
-remove-item-requires g c κs = omega (arith, leaf-inside (g .K·Kind .layout) _ _ _ _ false _ (c .descend-reached .ensures), c .load-leaf-page .ensures .len)
+pub take-out-item-requires : need.take-out-item-requires
+take-out-item-requires g c κs = omega (arith, leaf-inside (g .K·Kind .layout) _ _ _ _ false _ (c .descend-reached .ensures), c .load-leaf-page .ensures .len)
 
 pub put-leaf-risen-requires : need.put-leaf-risen-requires
 put-leaf-risen-requires g c κs =
@@ -36,7 +34,7 @@ put-leaf-risen-requires g c κs =
     record {
       asks = omega (arith, reading-left _ _ _ r, reading-left _ _ _ (d .same), c .pre .asks);
       there = reading-stored _ _ _ r _ (leaf-stored K _ _ _ _ false _ d);
-      few = omega (arith, leaf-few K _ _ _ _ false _ d, c .load-leaf-page .ensures .len, c .remove-item .ensures .len);
+      few = omega (arith, leaf-few K _ _ _ _ false _ d, c .load-leaf-page .ensures .len, c .take-out-item .ensures .len);
     }
 
 pub climb-top-requires : need.climb-top-requires
@@ -48,7 +46,7 @@ climb-top-requires g c κs =
     let m = g .W·Store .memory (c .args .m .now) in (
       start K lw wide narrow m (c .args .t) (c .args .at) (c .pre .lies) (c .pre .place) (c .pre .asks),
       code-begun K lw wide narrow m (c .args .t) (c .args .at) (c .pre .lies) (c .pre .place) (c .pre .asks) _ _ _ _ (c .descend-reached .ensures) (c .load-leaf-page .ensures .same)
-          _ _ _ (c .load-leaf-page .ensures .after) (c .remove-item .ensures .after) (c .put-leaf-risen .ensures),
+          _ _ _ (c .load-leaf-page .ensures .after) (c .take-out-item .ensures .rest) (c .put-leaf-risen .ensures),
     )
 
 pub trim-requires : need.trim-requires
@@ -60,7 +58,7 @@ trim-requires g c κs =
     let m = g .W·Store .memory (c .args .m .now) in
     let z = start K lw wide narrow m (c .args .t) (c .args .at) (c .pre .lies) (c .pre .place) (c .pre .asks) in
     let v = code-begun K lw wide narrow m (c .args .t) (c .args .at) (c .pre .lies) (c .pre .place) (c .pre .asks) _ _ _ _ (c .descend-reached .ensures) (c .load-leaf-page .ensures .same)
-    _ _ _ (c .load-leaf-page .ensures .after) (c .remove-item .ensures .after) (c .put-leaf-risen .ensures) in
+    _ _ _ (c .load-leaf-page .ensures .after) (c .take-out-item .ensures .rest) (c .put-leaf-risen .ensures) in
     (z, code-topmost K lw wide narrow m (c .args .t) (c .args .at) (c .pre .lies) (c .pre .place) (c .pre .asks) _ _ _ (g .W·Store .memory (c .put-leaf-risen .last .m)) (c .descend-reached .ensures) (c .load-leaf-page .ensures .same) _ _ (c .climb-top .ensures z v))
 
 pub returns : need.returns
@@ -72,7 +70,7 @@ returns g c =
     let m = g .W·Store .memory (c .args .m .now) in
     let z = start K lw wide narrow m (c .args .t) (c .args .at) (c .pre .lies) (c .pre .place) (c .pre .asks) in
     let v = code-begun K lw wide narrow m (c .args .t) (c .args .at) (c .pre .lies) (c .pre .place) (c .pre .asks) _ _ _ _ (c .descend-reached .ensures) (c .load-leaf-page .ensures .same)
-    _ _ _ (c .load-leaf-page .ensures .after) (c .remove-item .ensures .after) (c .put-leaf-risen .ensures) in
+    _ _ _ (c .load-leaf-page .ensures .after) (c .take-out-item .ensures .rest) (c .put-leaf-risen .ensures) in
     let w = code-topmost K lw wide narrow m (c .args .t) (c .args .at) (c .pre .lies) (c .pre .place) (c .pre .asks) _ _ _ (g .W·Store .memory (c .put-leaf-risen .last .m)) (c .descend-reached .ensures) (c .load-leaf-page .ensures .same) _ _ (c .climb-top .ensures z v) in
     code-deleted K lw wide narrow m (c .args .t) (c .args .at) (c .pre .lies) (c .pre .place) (c .pre .asks) _ _ _ (g .W·Store .memory (c .put-leaf-risen .last .m)) (c .descend-reached .ensures) (c .load-leaf-page .ensures .same)
-    _ _ (c .trim .result) _ (c .load-leaf-page .ensures .after) (c .remove-item .ensures .value) (c .trim .ensures z w)
+    _ _ (c .trim .result) _ (c .load-leaf-page .ensures .after) (c .take-out-item .ensures .item) (c .trim .ensures z w)

@@ -1,7 +1,5 @@
-use mathlib.Core.Path.{_≡_, sym, ap, _∙_}
-use Prim.Native.Nat.{ℕ, _≤_, _<_}
+use Prim.Native.Nat.{_<_}
 use native.Mathlib.Omega.{arith}
-use lib.ListN.{length}
 use Rattle.page.specs.Layout.{half, imaged, leafEntry}
 use Rattle.page.specs.View.{entries}
 use Rattle.page.proofs.Pages.{length-entries}

@@ -1,8 +1,7 @@
-use mathlib.Core.Path.{_≡_, sym, ap, _∙_}
+use mathlib.Core.Path.{ap, _∙_}
 use mathlib.Core.List.{List}
-use Prim.Native.Nat.{_≤_, _<_}
 use native.Mathlib.Omega.{arith}
-use lib.ListN.{length, getD}
+use lib.ListN.{getD}
 use Rattle.page.specs.declared.child.Child.{Child}
 use Rattle.seek.proofs.Readings.{reading-left, reading-stored}
 use Rattle.shrink.proofs.CodeTop.{top-stored, top-left, node-few, node-some, code-node-stays, code-small, code-node-gone}
@@ -26,19 +25,18 @@ release-requires g c κs =
     let r = c .load-node-page .ensures .same in
     (omega (arith, top-left (g .K·Kind .layout) lw _ _ _ _ v, reading-left _ _ _ r), reading-stored _ _ _ r _ (top-stored (g .K·Kind .layout) lw _ _ _ _ v))
 
-pub get-requires : need.get-requires
-get-requires g c κs = omega (arith, node-some (g .K·Kind .layout) (g .K·Kind·met .lawful) _ _ _ _ (c .pre .top .1) (c .pre .height), c .load-node-page .ensures .len)
-
-pub cast-result : need.cast-result
-cast-result g c =
+pub only-child-requires : need.only-child-requires
+only-child-requires g c κs =
     let v = c .pre .top .1 in
     let K = g .K·Kind .layout in
     let lw = g .K·Kind·met .lawful in
     record {
-      fits = omega (
+      tall = omega (arith, c .pre .height);
+      some = omega (arith, node-some K lw _ _ _ _ v (c .pre .height), c .load-node-page .ensures .len);
+      small = λ d. omega (
         arith,
-        code-small K lw _ _ _ _ v (c .pre .height) _ (c .load-node-page .ensures .same) (c .get .result) (λ d. c .get .ensures .value d ∙ ap (λ (ks : List Child). getD ks 0 d) (c .load-node-page .ensures .after))
-            (omega (arith, node-some K lw _ _ _ _ v (c .pre .height), c .if-len-gt1 .left, c .len .ensures .0, c .load-node-page .ensures .len)),
+        ap (λ (ks : List Child). getD ks 0 d .block) (c .load-node-page .ensures .after),
+        code-small K lw _ _ _ _ v (c .pre .height) _ (c .load-node-page .ensures .same) (omega (arith, node-some K lw _ _ _ _ v (c .pre .height), c .if-len-gt1 .left, c .len .ensures .0, c .load-node-page .ensures .len)) d,
       );
     }
 
@@ -46,5 +44,5 @@ pub returns : need.returns
 returns g c = λ z v.
     let K = g .K·Kind .layout in
     let lw = g .K·Kind·met .lawful in
-    code-node-gone K lw z _ _ _ v (c .pre .height) _ (c .load-node-page .ensures .same) (c .get .result) (λ d. c .get .ensures .value d ∙ ap (λ (ks : List Child). getD ks 0 d) (c .load-node-page .ensures .after))
-    (omega (arith, node-some K lw _ _ _ _ v (c .pre .height), c .if-len-gt1 .left, c .len .ensures .0, c .load-node-page .ensures .len)) _ (c .release .ensures)
+    code-node-gone K lw z _ _ _ v (c .pre .height) _ (c .load-node-page .ensures .same) (omega (arith, node-some K lw _ _ _ _ v (c .pre .height), c .if-len-gt1 .left, c .len .ensures .0, c .load-node-page .ensures .len))
+    (c .only-child .result) (λ d. c .only-child .ensures .root d ∙ ap (λ (ks : List Child). getD ks 0 d .block) (c .load-node-page .ensures .after)) (c .only-child .ensures .height) _ (c .release .ensures)

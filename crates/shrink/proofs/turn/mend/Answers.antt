@@ -1,5 +1,4 @@
 use native.Mathlib.Omega.{arith}
-use Rattle.page.specs.View.{entries}
 use Rattle.shrink.proofs.Replacing.{children-valid}
 use Rattle.shrink.proofs.CodeTurns.{first-small, second-small, next-at, mended-at}
 use Rattle.shrink.proofs.turn.mend.Needs as need

@@ -14,7 +14,7 @@ use Rattle.clear.specs.declared.stack.Visit.{Visit}
 use Rattle.clear.specs.Given.{giveAsks, tallBlocks, GivenBack}
 use Rattle.clear.specs.Trail.{branch}
 use Rattle.clear.specs.Visits.{blockWord, Readable, Childless, NextChild, GoneDown}
-use Rattle.clear.proofs.Words.{Nodes}
+use Rattle.tree.proofs.Words.{Nodes}
 use Rattle.tree.proofs.Low.{height-low}
 use Rattle.clear.proofs.Clearing.{Clearing, node-stored, node-narrow, node-asks, popped, child-stored, child-asks, picked, pushed, started, finished}
 

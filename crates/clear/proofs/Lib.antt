@@ -1,5 +1,4 @@
 pub mod Stacks
-pub mod Words
 pub mod Low
 pub mod Clearing
 pub mod Going

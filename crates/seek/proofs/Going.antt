@@ -7,6 +7,7 @@ use native.Mathlib.Omega.{arith}
 use lib.Dec.{eqb}
 use native.Mathlib.Numerals.{add-one}
 use lib.ListN.{length, getD, set, take}
+use Rattle.std.proofs.shelf.Lists.{getD-default}
 use Rattle.page.specs.declared.child.Child.{Child}
 use Rattle.page.specs.Layout.{Layout, Lawful, counts}
 use Rattle.page.proofs.Counts.{counts-more}
@@ -23,7 +24,9 @@ use Rattle.tree.proofs.Entries.{counts-right}
 use Rattle.tree.proofs.Paths.{node-child}
 use Rattle.tree.proofs.Places.{down}
 use Rattle.seek.specs.declared.path.Path.{Path as Nodes}
+use Rattle.seek.specs.declared.step.Step.{Step}
 use Rattle.seek.specs.Asks.{descendAsks}
+use Rattle.seek.specs.Chosen.{Chosen}
 use Rattle.seek.specs.Descent.{more, nodes, runOn, nodesFull, Descended}
 use Rattle.seek.specs.Sizes.{topLevel, longest}
 use Rattle.seek.proofs.Branches.{branches-none, branches-push}
@@ -173,6 +176,14 @@ module _ {E : Type 0} (K : Layout E) where
                   run = ef ∙ rw n (ap₂ (λ (x y : ℕ). runOn x y (K .nodeCap)) (z .run) (ap length same));
                   short = omega (arith, ef, run-le full (length ks) (K .nodeCap), z .short);
                 }
+
+      -- by the step that was chosen
+      pub going-chosen : (s : Step) → Chosen (K .children (m′ .block b)) rest gap s → Lawful K → (ns′ : Nodes) → ns′ .blocks ≡ set (ns .blocks) (ns .depth) b → ns′ .places ≡ set (ns .places) (ns .depth) (s .child) → ns′ .depth ≡ ns .depth + 1
+          → (full′ : ℕ) → full′ ≡ runOn full (length (K .children (m′ .block b))) (K .nodeCap) → (m″ : Memory) → Reading pageAsks m′ m″ → Going m H r p gap h (s .block) ns′ (s .rest) full′ m″
+      going-chosen s c g ns′ eb ep ed full′ ef m″ q =
+          let ks = K .children (m′ .block b) in
+          let any : (d : Child) → getD ks (s .child) none ≡ getD ks (s .child) d = λ d. getD-default ks (s .child) none d (c .child) in
+          rw (c .block) (going-turn ks refl (s .child) (s .rest) (getD ks (s .child) none) (c .child) any (c .before) (λ d. rw (← any d) (c .within)) g ns′ eb ep ed full′ ef m″ q)
 
   -- at the leaf
   pub going-end : (m m′ : Memory) (t : Tree) (p : ℕ) (gap : Bool) (level b : ℕ) (ns : Nodes) (rest full : ℕ) → Going m (t .height - 1) (t .root) p gap level b ns rest full m′ → 0 < t .height → level ≡ 0

@@ -1,5 +1,7 @@
 pub mod Readings
+pub mod Counted
 pub mod Imaged
+pub mod EntryWords
 pub mod Tops
 pub mod Branches
 pub mod Going

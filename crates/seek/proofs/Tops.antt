@@ -1,22 +1,15 @@
 -- The topmost page of a tree, by the tree's height.
 use mathlib.Core.Path.{_≡_, refl}
-use mathlib.Core.List.{List}
 use Prim.Native.Nat.{ℕ, zero, suc, _+_, _^_, _≤_, _<_}
 use native.Mathlib.Omega.{arith}
-use lib.ListN.{length, getD, drop}
-use Rattle.page.specs.declared.child.Child.{Child}
+use lib.ListN.{length}
 use Rattle.page.specs.Layout.{Layout, counts}
-use Rattle.page.proofs.Counts.{counts-more, counts-parts}
 use Rattle.store.specs.Memory.{Stored}
 use Rattle.store.specs.Steps.{Mem, held}
 use Rattle.tree.specs.Tree.{contents, Sound}
 use Rattle.tree.specs.Tall.{tallContents, tallUses, Tall}
 use Rattle.tree.proofs.Entries.{counts-right}
 use Rattle.tree.proofs.Low.{length-low}
-
--- from a child on
-pub counts-rest : (ks : List Child) (i : ℕ) (k : Child) → i < length ks → ((d : Child) → k ≡ getD ks i d) → counts (drop i ks) ≡ k .count + counts (drop (i + 1) ks)
-counts-rest ks i k l e = omega (arith, counts-more ks i k l e, counts-parts i ks, counts-parts (i + 1) ks)
 
 module _ {E : Type 0} (K : Layout E) where
   -- nothing

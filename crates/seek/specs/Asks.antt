@@ -1,10 +1,11 @@
 -- How often the memory is asked, at most.
 -- Assumes nothing.
 use Prim.Native.Nat.{ℕ, _+_, _*_}
+use Rattle.page.specs.Sizes.{widthLimit}
 use Rattle.tree.specs.Pages.{pageAsks}
 use Rattle.seek.specs.Sizes.{topLevel}
 
--- the root's page
+-- how many children the root has, and their counts
 abbrev pub lengthAsks : ℕ
 lengthAsks = pageAsks
 
@@ -12,9 +13,12 @@ lengthAsks = pageAsks
 abbrev pub descendAsks : ℕ
 descendAsks = topLevel * pageAsks + 1
 
--- the leaf is read, or read and written
+-- the words of an item are read, or written
+abbrev pub itemAsks : ℕ
+itemAsks = widthLimit
+
 abbrev pub atAsks : ℕ
-atAsks = descendAsks + pageAsks
+atAsks = descendAsks + itemAsks
 
 abbrev pub setAsks : ℕ
-setAsks = descendAsks + pageAsks + pageAsks
+setAsks = descendAsks + itemAsks

@@ -3,40 +3,53 @@ ghost use mathlib.Core.Path.{_≡_};
 ghost use mathlib.Core.List.{List, _∷_, _++_};
 ghost use Prim.Native.Nat.{_<_, _≤_};
 ghost use lib.ListN.{length, getD, set as put};
-ghost use Rattle.page.specs.View.{entries};
+ghost use Rattle.page.specs.Sizes.{blockRoom};
 ghost use Rattle.store.specs.Memory.{Stored};
-ghost use Rattle.tree.specs.Pages.{pageAsks, Reading};
+ghost use Rattle.tree.specs.Pages.{Reading, Writing};
 ghost use Rattle.tree.specs.Trees.{holds, Lies};
-ghost use Rattle.seek.specs.Asks.{atAsks, setAsks};
+ghost use Rattle.seek.specs.Asks.{itemAsks, atAsks, setAsks};
 ghost use Rattle.seek.specs.Items.{Updated};
 use crate::descend::descend;
-use crate::nodes::load_leaf;
+use crate::entry::load_entry;
+use crate::entry::store_entry;
+use page::codec::Codec;
 use page::kind::Kind;
-use page::page::Page;
+use page::sizes::WORDS;
 use store::Store;
-use tree::pages::store_page;
 use tree::top::Tree;
+
+// Which entry of a leaf is at a place.
+fn entry_number(at: u64) -> u32
+    requires { ⌜ at < blockRoom ⌝ }
+    ensures { λ r. ⌜ r ≡ at ⌝ }
+{
+    at as u32
+}
 
 // The item at a place of a leaf.
 fn read_item<K: Kind, W: Store<M>, M>(m: &mut M, leaf: u32, at: u64) -> K::Item
-    requires asks { ⌜ pageAsks ≤ memory (now m) .left ⌝ }
+    requires asks { ⌜ itemAsks ≤ memory (now m) .left ⌝ }
     requires there { ⌜ Stored (memory (now m) .block) leaf ⌝ }
     requires few { ⌜ length (K·Kind .layout .items (memory (now m) .block leaf)) ≤ K·Kind .layout .leafCap ⌝ }
     requires inside { ⌜ at < length (K·Kind .layout .items (memory (now m) .block leaf)) ⌝ }
     ensures value { λ r. ⌜ ((d : K·Item) → r ≡ getD (K·Kind .layout .items (memory (now (m .entry)) .block leaf)) at d) ⌝ }
-    ensures same { λ _. ⌜ Reading pageAsks (memory (now (m .entry))) (memory (now (m .exit))) ⌝ }
+    ensures same { λ _. ⌜ Reading itemAsks (memory (now (m .entry))) (memory (now (m .exit))) ⌝ }
 {
-    let page = load_leaf::<K, W, M>(m, leaf);
-    page.get(at as usize)
+    let words = load_entry::<K::Leaf, W, M>(m, leaf, entry_number(at));
+    K::Leaf::read(&words, 0)
 }
 
-// An entry of a leaf's page is another one.
-fn put_item<K: Kind>(page: &mut Page<K::Leaf>, at: u64, x: K::Item)
-    requires { ⌜ at < now page .len ⌝ }
-    ensures len { λ _. ⌜ now (page .exit) .len ≡ now (page .entry) .len ⌝ }
-    ensures after { λ _. ⌜ entries (Leaf·Codec .width) (Leaf·Codec .decode) (now (page .exit)) ≡ put (entries (Leaf·Codec .width) (Leaf·Codec .decode) (now (page .entry))) at x ⌝ }
+// The item at a place of a leaf becomes x.
+fn write_item<K: Kind, W: Store<M>, M>(m: &mut M, leaf: u32, at: u64, x: K::Item)
+    requires asks { ⌜ itemAsks ≤ memory (now m) .left ⌝ }
+    requires there { ⌜ Stored (memory (now m) .block) leaf ⌝ }
+    requires few { ⌜ length (K·Kind .layout .items (memory (now m) .block leaf)) ≤ K·Kind .layout .leafCap ⌝ }
+    requires inside { ⌜ at < length (K·Kind .layout .items (memory (now m) .block leaf)) ⌝ }
+    ensures { λ _. ⌜ Writing itemAsks (K·Kind .layout .items) leaf (put (K·Kind .layout .items (memory (now (m .entry)) .block leaf)) at x) (memory (now (m .entry))) (memory (now (m .exit))) ⌝ }
 {
-    page.replace(at as usize, x);
+    let mut words = [0; WORDS];
+    K::Leaf::write(x, &mut words, 0);
+    store_entry::<K::Leaf, W, M>(m, leaf, entry_number(at), &words);
 }
 
 // The item at i.
@@ -60,7 +73,5 @@ pub fn set<K: Kind, W: Store<M>, M>(m: &mut M, t: Tree, i: u64, x: K::Item)
     ensures { λ _. ⌜ Updated (K·Kind .layout) t i x (memory (now (m .entry))) (memory (now (m .exit))) ⌝ }
 {
     let place = descend::<K, W, M>(m, t, i, false);
-    let mut page = load_leaf::<K, W, M>(m, place.leaf);
-    put_item::<K>(&mut page, place.at, x);
-    store_page::<K::Leaf, W, M>(m, place.leaf, &page);
+    write_item::<K, W, M>(m, place.leaf, place.at, x);
 }

@@ -8,7 +8,7 @@ use Rattle.tree.specs.declared.top.Tree.{Tree}
 use Rattle.tree.specs.Trees.{Lies}
 use Rattle.tree.specs.Paths.{Branch}
 use Rattle.clear.specs.Given.{giveAsks, tallBlocks}
-use Rattle.clear.proofs.Words.{nodes-read}
+use Rattle.tree.proofs.Words.{nodes-read}
 use Rattle.clear.proofs.Going.{Task, low, begins, ends, turn-stored, turn-asks, turn-room, turn-readable, last-held, last-going, last-less, next-place, next-held, next-going, next-less}
 use Rattle.clear.proofs.nodes.give_nodes.Given as given
 use Rattle.clear.proofs.nodes.give_nodes.Needs as need

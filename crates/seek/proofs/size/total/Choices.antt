@@ -1,11 +1,10 @@
 use mathlib.Core.Path.{_≡_}
-use Prim.Native.Nat.{_+_}
-use lib.ListN.{drop}
+use lib.ListN.{take}
 use Rattle.page.specs.Layout.{counts}
-use Rattle.page.specs.View.{entries}
+use Rattle.store.specs.Memory.{asked}
 use Rattle.seek.proofs.size.total.Given as given
 
 abbrev pub Inv-loop-i : given.InvT-loop-i
 Inv-loop-i g l =
-    l .sum + counts (drop (l .i) (entries (g .Node·Codec .width) (g .Node·Codec .decode) (l .page)))
-    ≡ counts (entries (g .Node·Codec .width) (g .Node·Codec .decode) (l .page))
+    (g .W·Store .memory (l .m) ≡ asked (l .i) (g .W·Store .memory (l .entry .m)))
+    × (l .sum ≡ counts (take (l .i) (g .K·Kind .layout .children (g .W·Store .memory (l .entry .m) .block (l .b)))))

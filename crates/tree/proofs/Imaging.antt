@@ -49,7 +49,8 @@ module _ {E : Type 0} (w : ℕ) (dec : List ℕ → E) where
       let lt : length (take k image) ≡ k = length-take-le k image (omega arith) in
       let long : length ws ≡ 64 = omega (arith, length-append (take k image) (drop k (m .block b)), lt, length-drop k (m .block b), s .1) in
       let front : take k ws ≡ take k image = take-append-le k (take k image) (drop k (m .block b)) (omega (arith, lt)) ∙ take-take k k image (omega arith) in
-      record
-        { wrote = record { words = ws; long = long; reads = same-image w dec ws image n (sym z) front ∙ e; is = ap (λ (x : Memory). x .block) is }
-        ; ran = subst (λ (x : Memory). Ran pageAsks (hit b) (hit b) m x) (sym is) (ran-more _ _ _ _ _ (ran-wrote k b ws m s (omega (arith, long))) pageAsks (omega arith))
-        ; many = ap (λ (x : Memory). x .many) is }
+      record {
+        wrote = record { words = ws; long = long; reads = same-image w dec ws image n (sym z) front ∙ e; is = ap (λ (x : Memory). x .block) is };
+        ran = subst (λ (x : Memory). Ran pageAsks (hit b) (hit b) m x) (sym is) (ran-more _ _ _ _ _ (ran-wrote k b ws m s (omega (arith, long))) pageAsks (omega arith));
+        many = ap (λ (x : Memory). x .many) is;
+      }

@@ -4,15 +4,17 @@
     account.py SCRIPT              prints the answers; `?` for what depends on the trees (held, and a call that may be full)
     account.py SCRIPT OUTPUT       holds what the office printed to the rules, line by line
 
+    --built NAMES   the calls that are built, by commas (default: those of the file `built` beside this one);
+                    the others are answered `no 9`
     --scarce        any block may be refused at any time
     --quiet         print nothing but the verdict
 
-A line `?` is held to what the rules leave open: `held n` to the bound on blocks and to what the call before it may
-have got, a call during which a block may have been refused (after `refuse`, near the end of the `room` or of all blocks)
-to `full`, with nothing changed, or to its answer. If all is freed in the end and `held` is asked, none may be.
+A line `?` is held to what the rules leave open: `held n` to the bound on blocks, a call during which a block may
+have been refused (after `refuse`, under `room`) to `full`, with nothing changed, or to its answer.
 """
 import argparse
 import bisect
+import os
 import sys
 
 CALLS = {  # name: kinds of its numbers; n and m are names
@@ -23,9 +25,6 @@ CALLS = {  # name: kinds of its numbers; n and m are names
 OTHERS = {"refuse": 1, "room": 1, "held": 0}
 MAY_FILL = {"row", "table", "insert", "split", "join", "put", "cut", "merge"}
 NAMES = 256
-BLOCKS = 1024  # an office has so many
-ASKINGS = 16384  # a call asks the ground so often at most
-MORE = 64  # so many more blocks are held during a call at most
 
 
 def number(word):
@@ -232,11 +231,9 @@ class Shelf:
 class Office:
     """What is answered to each line; where the rules leave it open, what was told decides."""
 
-    def __init__(self, scarce=False):
-        self.scarce, self.shelf = scarce, Shelf()
+    def __init__(self, built, scarce=False):
+        self.built, self.scarce, self.shelf = built, scarce, Shelf()
         self.refuse, self.room, self.line = 0, 0, 0
-        # how many blocks are held, as it was last told; the calls since then; at most so many after the last call
-        self.told_held, self.since, self.at_most = 0, 0, 0
 
     def turn(self, text, told):
         """The answer to a line, None for none; `told` is what was printed, None if that isn't known."""
@@ -253,58 +250,28 @@ class Office:
         if name == "room":
             self.room = numbers[0]
             return None
-        return self.call(name, numbers, told)
-
-    def call(self, name, numbers, told):
-        may_be_full = name in MAY_FILL and self.may_be_refused()
-        self.at_most = self.most_after(name, told)
+        may_be_refused = (self.refuse or self.room or self.scarce) and name in MAY_FILL
         self.refuse = 0
-        self.since += 1
+        if name not in self.built:
+            return "no 9"
         try:
             answer, change = self.shelf.ask(name, numbers)
         except Refused as r:
             return str(r)
-        if may_be_full and told == "full":
+        if may_be_refused and told == "full":
             return "full"
-        if may_be_full and told is None:
+        if may_be_refused and told is None:
             sys.exit("line %d: the answer depends on what was told before; give the output too" % self.line)
         if change:
             change()
         return answer
 
-    def held_before(self):
-        """At most so many blocks are held now."""
-        return self.shelf.bound() if self.since else min(self.told_held, self.shelf.bound())
-
-    def may_be_refused(self):
-        """Whether the ground may refuse a block in the call to come: the one that `refuse` names, or one that is asked for
-        when as many are held as may be. So many more are held during a call at most; getting the last of them, one fewer."""
-        most = min(self.room or BLOCKS, BLOCKS)
-        return self.scarce or 0 < self.refuse <= ASKINGS or self.held_before() + MORE - 1 >= most
-
-    def most_after(self, name, told):
-        """At most so many blocks may be held after the call: no more than before it where all is as it was or a thing is freed."""
-        before = self.held_before()
-        if name == "free" or told == "full":
-            return before
-        most = min(before + MORE, BLOCKS)
-        return min(most, max(before, self.room)) if self.room else most
-
     def held(self, told):
         if told is None:
             return "?"
-        most = self.shelf.bound()
-        if self.since <= 1:
-            most = min(most, self.at_most)
         words = told.split(" ")
-        if len(words) == 2 and words[0] == "held" and words[1].isdigit() and int(words[1]) <= most:
-            self.told_held, self.since, self.at_most = int(words[1]), 0, int(words[1])
-            return told
-        return "held at most %d" % most
-
-    def left_over(self):
-        """When nothing is there any more, and that was told last: how many blocks are still held."""
-        return self.told_held if not self.shelf.things and not self.since else 0
+        good = len(words) == 2 and words[0] == "held" and words[1].isdigit() and int(words[1]) <= self.shelf.bound()
+        return told if good else "held at most %d" % self.shelf.bound()
 
 
 def lines_of(data):
@@ -313,14 +280,24 @@ def lines_of(data):
     return parts[:-1] if parts[-1] == b"" else parts
 
 
+def built_calls(names):
+    if names is None:
+        names = open(os.path.join(os.path.dirname(os.path.abspath(__file__)), "built"), encoding="ascii").read()
+    built = set(names.replace(",", " ").split())
+    if built - set(CALLS):
+        sys.exit("no such call: %s" % ", ".join(sorted(built - set(CALLS))))
+    return built
+
+
 def main():
     p = argparse.ArgumentParser()
     p.add_argument("script")
     p.add_argument("output", nargs="?")
+    p.add_argument("--built")
     p.add_argument("--scarce", action="store_true")
     p.add_argument("--quiet", action="store_true")
     o = p.parse_args()
-    office = Office(o.scarce)
+    office = Office(built_calls(o.built), o.scarce)
     script = lines_of(open(o.script, "rb").read())
     told = open(o.output, encoding="ascii").read().split("\n")[:-1] if o.output else None
     at = wrong = 0
@@ -338,9 +315,6 @@ def main():
                 print("line %d, %s: told %s, should be %s" % (office.line, text[:60].decode("latin-1"), was, answer))
     if told is not None:
         wrong += abs(len(told) - at)
-        if office.left_over():
-            wrong += 1
-            print("nothing is there any more, and %d blocks are held" % office.left_over())
         print("%d answers, %d wrong" % (at, wrong))
         sys.exit(1 if wrong else 0)
 

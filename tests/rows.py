@@ -2,21 +2,23 @@
 """Writes the office's script: the rows of calls A to H, and lines that are none.
 
     rows.py            all of it
-    rows.py A B        some of them; W a long row, T a long table, blocks refused R at each word that is inserted, K at each key
-                       and P at each split, join, cut and merge, L lines that are none
+    rows.py A B        some of them; W a long row, R blocks refused at each split, L lines that are none
 """
 import random
 import sys
 
 
 def a():
-    yield from ["row 1", "insert 1 0 7", "insert 1 0 8", "insert 1 2 9"]
-    for i in range(4):
-        yield "at 1 %d" % i
+    yield "row 1"
+    yield "insert 1 0 7"
+    yield "insert 1 0 8"
+    yield "insert 1 2 9"
 
 
 def row_a():
     yield from a()
+    for i in range(4):
+        yield "at 1 %d" % i
     yield "free 1"
 
 
@@ -26,20 +28,22 @@ def row_b():
 
 
 def c():
-    yield from ["table 3", "put 3 5 50", "put 3 2 20", "put 3 5 51"]
-    for i in range(3):
-        yield "nth 3 %d" % i
-    yield from ["least 3 3", "count 3 5"]
+    yield "table 3"
+    yield "put 3 5 50"
+    yield "put 3 2 20"
+    yield "put 3 5 51"
 
 
 def row_c():
     yield from c()
-    yield from ["drop 3 2", "get 3 2", "free 3"]
+    for i in range(3):
+        yield "nth 3 %d" % i
+    yield from ["least 3 3", "count 3 5", "drop 3 2", "get 3 2", "free 3"]
 
 
 def row_d():
     yield from c()
-    yield from ["get 3 2", "cut 3 5 4", "merge 4 3", "merge 3 4", "length 3", "free 3", "free 4"]
+    yield from ["cut 3 5 4", "merge 4 3", "merge 3 4", "length 3", "free 3", "free 4"]
 
 
 def row_e():
@@ -76,7 +80,7 @@ def row_g():
         yield "insert 7 %d %d" % (x, 3 * x)
     for k in range(1, 66):
         yield from ["refuse %d" % k, "split 7 2500 8", "join 7 8", "length 7"]
-    for i in range(5000):
+    for i in (0, 2499, 2500, 4999):
         yield "at 7 %d" % i
     yield from ["free 7", "free 8", "held"]
 
@@ -96,7 +100,7 @@ def row_h():
         yield "split %d %d %d" % (first, words * r, first + r)
     for r in range(rows):
         yield "length %d" % (first + r)
-        for i in range(words):
+        for i in (0, 1, 50, 98, 99):
             yield "at %d %d" % (first + r, i)
     for r in range(rows):
         yield "free %d" % (first + r)
@@ -145,81 +149,6 @@ def row_refused():
     yield from ["room 0", "insert %d 0 1" % n, "length %d" % n, "free %d" % n, "held"]
 
 
-def row_table():
-    """A table of 6,000 pairs, from keys that rise, fall and come at random; read back whole, cut, merged, dropped."""
-    n, m, third, r = 22, 23, 2000, random.Random(22)
-    rising = [1000000 + 7 * x for x in range(third)]
-    falling = [999999 - 5 * x for x in range(third)]
-    anywhere = [2000000 + r.randrange((1 << 64) - 2000000) for _ in range(third)]
-    keys = rising + falling + anywhere
-    yield "table %d" % n
-    for x, k in enumerate(keys):
-        yield "put %d %d %d" % (n, k, x)
-        if x % 100 == 99:
-            yield "held"
-    for k in keys[::11]:
-        yield from ["put %d %d %d" % (n, k, k % 1000), "length %d" % n]
-    for i in range(len(keys) + 1):
-        yield "nth %d %d" % (n, i)
-    for k in keys[::5]:
-        yield from ["get %d %d" % (n, k), "get %d %d" % (n, k + 1), "least %d %d" % (n, k + 1), "count %d %d" % (n, k)]
-    for k in [0, 1, (1 << 64) - 1] + r.sample(keys, 60):
-        yield from ["cut %d %d %d" % (n, k, m), "length %d" % n, "length %d" % m, "merge %d %d" % (m, n), "merge %d %d" % (n, m), "length %d" % n, "held"]
-    for x, k in enumerate(keys[::2] + keys[1::2]):
-        yield "drop %d %d" % (n, k)
-        if x % 100 == 99:
-            yield from ["held", "nth %d 0" % n, "least %d 0" % n]
-    yield from ["length %d" % n, "drop %d 7" % n, "free %d" % n, "held"]
-
-
-def refused_at(call, undo, look):
-    """The call while its k-th block is refused, for each k; `undo` brings back what it changed, if it did."""
-    for k in range(1, 66):
-        yield from ["refuse %d" % k, call, "held"]
-        yield from undo
-        yield from look
-
-
-def row_refused_parts():
-    """The k-th block is refused at each kind of call that parts things or puts them together; then little room for them."""
-    yield from ["row 24", "table 26"]
-    for x in range(2500):
-        yield from ["insert 24 %d %d" % (x, x), "put 26 %d %d" % (2 * x, x)]
-    looks = ["length 24", "length 25", "length 26", "length 27"]
-    for i in (1, 700, 2499):
-        yield from refused_at("split 24 %d 25" % i, ["join 24 25"], looks)
-        yield "split 24 %d 25" % i
-        yield from refused_at("join 24 25", ["split 24 %d 25" % i], looks)
-        yield from ["join 24 25", "at 24 %d" % i]
-        yield from refused_at("cut 26 %d 27" % (2 * i), ["merge 26 27"], looks)
-        yield "cut 26 %d 27" % (2 * i)
-        yield from refused_at("merge 26 27", ["cut 26 %d 27" % (2 * i)], looks)
-        yield from ["merge 26 27", "nth 26 %d" % i]
-    for room in range(1, 300, 5):
-        yield from ["room %d" % room, "split 24 1200 25", "cut 26 2400 27", "held", "join 24 25", "merge 26 27", "held", "room 0"]
-        yield from ["join 24 25", "merge 26 27"] + looks
-    for i in range(2500):
-        yield from ["at 24 %d" % i, "nth 26 %d" % i]
-    yield from ["free 24", "free 25", "free 26", "free 27", "held"]
-
-
-def row_refused_keys():
-    """The k-th block is refused at each new key; what is there already needs none."""
-    n, r = 28, random.Random(28)
-    keys = [r.randrange(1 << 64) for _ in range(1300)]
-    yield "table %d" % n
-    for x, key in enumerate(keys):
-        for k in (1, 2, 3):
-            yield from ["refuse %d" % k, "put %d %d %d" % (n, key, 10 * x + k)]
-        if x % 20 == 0:
-            yield from ["held", "length %d" % n, "get %d %d" % (n, key)]
-    for key in keys[::7]:
-        yield "get %d %d" % (n, key)
-    for k in (1, 2, 3):
-        yield from ["refuse %d" % k, "get %d %d" % (n, keys[0]), "refuse %d" % k, "drop %d %d" % (n, keys[k])]
-    yield from ["held", "free %d" % n, "held"]
-
-
 def lines():
     """Lines that are none, and lines that only just are."""
     yield from [
@@ -236,10 +165,7 @@ def lines():
     ]
 
 
-PARTS = {
-    "A": row_a, "B": row_b, "C": row_c, "D": row_d, "E": row_e, "F": row_f, "G": row_g, "H": row_h, "W": row_long, "T": row_table,
-    "R": row_refused, "K": row_refused_keys, "P": row_refused_parts, "L": lines,
-}
+PARTS = {"A": row_a, "B": row_b, "C": row_c, "D": row_d, "E": row_e, "F": row_f, "G": row_g, "H": row_h, "W": row_long, "R": row_refused, "L": lines}
 
 if __name__ == "__main__":
     for name in sys.argv[1:] or PARTS:

@@ -5,7 +5,7 @@ ghost use Rattle.things.specs.Things.{empty};
 ghost use Rattle.things.specs.State.{shelf_of};
 ghost use Rattle.script.specs.Lines.{line_of};
 ghost use Rattle.ration.specs.Refusing.{ground_of};
-ghost use Rattle.console.specs.Turns.{Ready, begun, Begun, Told, Replied};
+ghost use Rattle.console.specs.Turns.{Ready, Told, Replied};
 
 use ration::Ration;
 use script::{Line, Reply, parse};
@@ -19,33 +19,19 @@ pub fn open<B: Blocks>(b: &B) -> Things
     Things::new()
 }
 
-// A call begins: what was refused before doesn't count, and it has as many askings and blocks as it may have.
-fn begin<B: Blocks + Bounds>(b: &mut B, o: Op)
-    ensures { (ground b.new ≡ begun o (ground b.old)) × ((ground b.old).many ≤ 1048576) }
+// A call is served, with as many askings and blocks as it may have.
+pub fn ask<B: Blocks + Bounds>(s: &mut Things, b: &mut B, o: Op) -> Answer
+    requires { Ready s.old (ground b.old) }
+    ensures { Told o s.old (ground b.old) result s.new (ground b.new) }
 {
+    // what was refused before this call doesn't count
     let _before = b.failed();
     let m = b.many();
     match o {
         Op::Free(_) => b.allow(16384 + 128 * m, m),
         _ => b.allow(16384, m + 64),
     }
-}
-
-// A call that has begun is served.
-fn serve_begun<B: Blocks>(s: &mut Things, b: &mut B, o: Op) -> Answer
-    requires { Begun o s.old (ground b.old) }
-    ensures { Told o s.old (ground b.old) result s.new (ground b.new) }
-{
     s.serve(b, o)
-}
-
-// A call begins and is served. Full is told only where a block was refused since it began.
-pub fn ask<B: Blocks + Bounds>(s: &mut Things, b: &mut B, o: Op) -> Answer
-    requires { Ready s.old (ground b.old) }
-    ensures { Told o s.old (begun o (ground b.old)) result s.new (ground b.new) }
-{
-    begin(b, o);
-    serve_begun(s, b, o)
 }
 
 // What a line comes to. `number` is the line's, counted from 1.
@@ -57,7 +43,7 @@ pub fn reply<B: Blocks + Bounds>(
 ) -> Option<Reply>
     requires { Ready s.old (ground_of B.Blocks.ground b.old) }
     ensures ready { Ready s.new (ground_of B.Blocks.ground b.new) }
-    ensures replied { Replied B.Blocks.ground (line_of text.now) number s.old b.old result s.new b.new }
+    ensures replied { Replied (line_of text.now) number s.old (ground_of B.Blocks.ground b.old) result s.new (ground_of B.Blocks.ground b.new) }
 {
     match parse(text) {
         Some(Line::Call(o)) => Some(Reply::Told(ask(s, b, o))),

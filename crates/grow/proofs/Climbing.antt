@@ -54,11 +54,6 @@ pub spent_settled : {X : Type 0} (read : List ℕ → List X) (entry : ℕ → L
 spent_settled read entry cap k b xs m s one None m' s' p = spent_ran k _ _ m m' p.ran
 spent_settled read entry cap k b xs m s one (Some other) m' s' p = spent_ran k _ _ m m' p.parted.ran
 
-pub settled_count : {X : Type 0} (read : List ℕ → List X) (entry : ℕ → List X → Child) (cap k b : ℕ) (xs : List X) (m : Memory) (s : Reserve) (one : Child) (two : Option Child) (m' : Memory) (s' : Reserve)
-    → Settled read entry cap k b xs m s one two m' s' → s.count ≤ s'.count + 1
-settled_count read entry cap k b xs m s one None m' s' p = omega (arith, ap (λ (x : Reserve). x.count) p.same)
-settled_count read entry cap k b xs m s one (Some other) m' s' p = omega (arith, p.parted.fewer)
-
 module _ {E : Type 0} (K : Layout E) where
   counts_loose : (h : ℕ) (g : Mem) (ks : List Child) → All (Loose K h g) ks → counts ks ≡ length (contents_of K h g ks)
   unfolding flat All
@@ -206,24 +201,6 @@ module _ {E : Type 0} (K : Layout E) where
       small = v.small;
     }
 
-    -- the last node, where it had room
-    pub narrow : ws ≡ [] → length (K.children (f z.top)) < K.node_cap → (k : ℕ) (m' : Memory) (s' : Reserve) (one' : Child) (two' : Option Child)
-        → Settled K.children (entry_of K) K.node_cap k w.block (placed ks w.place one two) m s one' two' m' s' → length (one_or_two one' two') ≡ 1
-    unfolding one_or_two Path
-    narrow e l k m' s' one' None p = refl
-    narrow e l k m' s' one' (Some other) p = absurd (omega (
-      arith,
-      p.full,
-      l,
-      length_placed ks w.place one two inside,
-      length_one_or_two one two,
-      ap (λ (x : List ℕ). length (K.children x)) page,
-      ap (λ (x : ℕ). length (K.children (f x))) is_top,
-    ))
-      where
-        is_top : w.block ≡ z.top
-        is_top = (subst (λ (xs : List Branch). Path K f (suc h) w.block xs z.level z.top) e grown.rising.path.2).1
-
   -- the same for the last of the first d branches of a path
   module _ (bs ps : List ℕ) (d : ℕ) (l : 0 < d) (z : Start E) (m : Memory) (s : Reserve) (one : Child) (two : Option Child) (v : Rises K z (branches bs ps d) m s one two) where
     there_is : Rises K z (record { block = get_or bs (d - 1) 0; place = get_or ps (d - 1) 0 } ∷ branches bs ps (d - 1)) m s one two
@@ -235,14 +212,6 @@ module _ {E : Type 0} (K : Layout E) where
     pub turn_at : Lawful K → (k : ℕ) (m' : Memory) (s' : Reserve) (one' : Child) (two' : Option Child)
         → Settled K.children (entry_of K) K.node_cap k (get_or bs (d - 1) 0) (placed (K.children (m.block (get_or bs (d - 1) 0))) (get_or ps (d - 1) 0) one two) m s one' two' m' s' → Rises K z (branches bs ps (d - 1)) m' s' one' two'
     turn_at lw k m' s' one' two' p = turn lw z _ _ m s one two there_is k m' s' one' two' p
-
-    none_left : (n : ℕ) → n ≡ 0 → branches bs ps n ≡ []
-    unfolding branches
-    none_left n q = ap (branches bs ps) q
-
-    pub narrow_at : Lawful K → d ≡ 1 → length (K.children (z.memory z.top)) < K.node_cap → (k : ℕ) (m' : Memory) (s' : Reserve) (one' : Child) (two' : Option Child)
-        → Settled K.children (entry_of K) K.node_cap k (get_or bs (d - 1) 0) (placed (K.children (m.block (get_or bs (d - 1) 0))) (get_or ps (d - 1) 0) one two) m s one' two' m' s' → length (one_or_two one' two') ≡ 1
-    narrow_at lw e = narrow lw z _ _ m s one two there_is (none_left (d - 1) (omega (arith, e)))
 
   pub at_last : (bs ps : List ℕ) (d : ℕ) (z : Start E) (m : Memory) (s : Reserve) (one : Child) (two : Option Child) → d ≡ 0 → Rises K z (branches bs ps d) m s one two → Rises K z [] m s one two
   unfolding branches

@@ -1,5 +1,5 @@
 -- The end of a climb.
-use Rattle.std.proofs.Common.{◌≡◌, ℕ, zero, suc, ◌+◌, ◌<◌, ◌≤◌, Bool, T, List, [], ◌∷◌, length, Some, None, Option, sym, ap, subst, arith}
+use Rattle.std.proofs.Common.{◌≡◌, ℕ, zero, suc, ◌+◌, ◌<◌, ◌≤◌, Bool, T, List, [], ◌∷◌, length, Some, None, Option, sym, subst, arith}
 use Rattle.page.specs.declared.child.Child.{Child}
 use Rattle.page.specs.Layout.{Layout, Lawful}
 use Rattle.store.specs.declared.reserve.Reserve.{Reserve}
@@ -13,10 +13,6 @@ use Rattle.tree.proofs.Grown.{grown_one, grown_two}
 use Rattle.grow.specs.Rises.{Valid, needed, Rises}
 use Rattle.grow.specs.Crown.{Above, Crowned}
 use Rattle.grow.proofs.Climbing.{valid_come}
-
-pub length_two : (one : Child) (two : Option Child) (other : Child) → two ≡ Some other → length (one_or_two one two) ≡ 2
-unfolding one_or_two
-length_two one two other e = ap (λ (o : Option Child). length (one_or_two one o)) e
 
 module _ {E : Type 0} (K : Layout E) where
   pub sound_stored : (h : ℕ) (f : Mem) (b : ℕ) → Sound K h f b → Stored f b

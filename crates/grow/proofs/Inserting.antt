@@ -1,5 +1,5 @@
 -- An insertion from its beginning to its end.
-use Rattle.std.proofs.Common.{◌≡◌, ℕ, zero, suc, ◌+◌, ◌-◌, ◌*◌, ◌^◌, ◌<◌, ◌≤◌, eqb, ltb, List, [], ◌∷◌, length, take, drop, Some, None, Option, sym, refl, ap, ◌∙◌, subst, ap₂, arith, length-append, length-drop, length-take}
+use Rattle.std.proofs.Common.{◌≡◌, ℕ, zero, suc, ◌+◌, ◌-◌, ◌*◌, ◌^◌, ◌<◌, ◌≤◌, eqb, ltb, List, [], ◌∷◌, length, take, drop, Some, None, Option, sym, refl, ap, ◌∙◌, subst, ap₂, mul-le-mul, arith, length-append, length-drop, length-take}
 use native.Mathlib.Decide.{ℕ_discrete}
 use Rattle.std.proofs.lemmas.Bool.{eq-eqb, ne_eqb, ltb-true, ltb-false, cond_both}
 use Rattle.std.specs.List.{insert}
@@ -14,7 +14,7 @@ use Rattle.store.proofs.Stepping.{step_then, step_as, step_beside, step_same}
 use Rattle.store.proofs.Running.{held_le, stored_held, ran_then}
 use Rattle.store.proofs.Stocking.{reserve_few}
 use Rattle.tree.specs.declared.top.Tree.{Tree}
-use Rattle.tree.specs.Tree.{contents, uses as treeUses, Sound, Root, Kept}
+use Rattle.tree.specs.Tree.{contents, uses as treeUses, Sound, Root, blocks, Kept}
 use Rattle.tree.specs.Tall.{tall_contents, tall_uses, Tall}
 use Rattle.tree.specs.Trees.{Lies}
 use Rattle.tree.specs.Paths.{Branch, before, behind}
@@ -23,12 +23,13 @@ use Rattle.tree.specs.Leaves.{Begun}
 use Rattle.tree.specs.Climb.{one_or_two, branches, Start}
 use Rattle.tree.specs.Growing.{Growing}
 use Rattle.tree.specs.Pages.{Reading}
+use Rattle.tree.proofs.Bounds.{most}
 use Rattle.tree.proofs.Frames.{frame}
 use Rattle.tree.proofs.Leaves.{grow_leaf, grow_leaves}
 use Rattle.tree.proofs.Paths.{seen}
 use Rattle.tree.proofs.Places.{inserted as inserted_below}
 use Rattle.seek.specs.Descent.{nodes_full, full_run}
-use Rattle.tree.proofs.Low.{few_items}
+use Rattle.tree.proofs.Low.{blocks_low}
 use Rattle.seek.proofs.Readings.{reading_left}
 use Rattle.grow.specs.Asks.{insert_asks}
 use Rattle.grow.specs.Settle.{lower, upper, Settled}
@@ -85,11 +86,6 @@ module _ {E : Type 0} (K : Layout E) (f : Mem) where
     }
   ]
 
-  pub needed_le : (ws : List Branch) → needed K f ws ≤ length ws + 1
-  unfolding needed
-  needed_le [] = omega arith
-  needed_le (w ∷ ws) = cond_both (eqb (length (K.children (f w.block))) K.node_cap) (1 + needed K f ws) 0 (λ k. k ≤ length (w ∷ ws) + 1) (λ q. omega (arith, needed_le ws)) (λ q. omega arith)
-
   module _ (b : ℕ) (ws : List Branch) (n full depth : ℕ) (en : n ≡ blocks_needed full depth) (ef : full ≡ full_run K f b ws) (ed : length ws ≡ depth) where
     few_full : full ≤ depth + 1
     few_full = subst (λ (k : ℕ). k ≤ depth + 1) (sym ef) (cond_both (eqb (length (K.items (f b))) K.leaf_cap) (nodes_full K f ws + 1) 0 (λ k. k ≤ depth + 1) (λ q. omega (arith, (run ws).short)) (λ q. omega arith))
@@ -131,6 +127,9 @@ module _ {E : Type 0} (K : Layout E) where
   pub uses_when_tall : (h l : ℕ) (f : Mem) (b c : ℕ) → h ≡ suc l → tall_uses K h f b c ≡ treeUses K l f b c
   unfolding tall_uses
   uses_when_tall h l f b c e = ap (λ (k : ℕ). tall_uses K k f b c) e
+
+  few_items : K.leaf_cap ≤ 62 → (h : ℕ) (f : Mem) (b : ℕ) → Sound K h f b → ((c : ℕ) → treeUses K h f b c ≤ held f c) → length (contents K h f b) ≤ 62 * 1048576
+  few_items l h f b w o = omega (arith, most K h f b w, mul-le-mul {n₁ = K.leaf_cap} {m₁ = blocks K h f b} {n₂ = 62} {m₂ = 1048576} l (blocks_low K h f b w o))
 
   length_inserted : (xs : List E) (i : ℕ) (x : E) → length (insert xs i x) ≡ length xs + 1
   length_inserted xs i x = omega (arith, length-append (take i xs) (x ∷ drop i xs), length-take i xs, length-drop i xs)
@@ -203,7 +202,7 @@ module _ {E : Type 0} (K : Layout E) where
         leaf_most = d.sound.1
 
         small : K.leaf_cap ≤ 62 → length start.goal < 2 ^ 64
-        small l = omega (arith, length_inserted (contents K H f t.root) at x, few_items K l H f t.root top.root.sound once)
+        small l = omega (arith, length_inserted (contents K H f t.root) at x, few_items l H f t.root top.root.sound once)
 
         from_start : (v : ℕ → ℕ) (m₃ : Memory) → Step (λ c. hit b c + uses s c) v m₂.block m₃.block → Step (λ c. hit b c + 0) v f m₃.block
         from_start v m₃ p = step_as _ _ _ _ f m₃.block (λ c. omega arith) (λ c. refl)

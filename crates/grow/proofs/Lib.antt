@@ -5,4 +5,3 @@ pub mod Inserting
 pub mod Planting
 pub mod Course
 pub mod Lying
-pub mod Roomy

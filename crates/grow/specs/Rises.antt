@@ -59,7 +59,3 @@ module _ {E : Type 0} (K : Layout E) where
 
   abbrev pub Climbs : List Branch → Memory → Reserve → Child → Option Child → List Branch → Memory → Reserve → Child → Option Child → Type 0
   Climbs ws m s one two ws' m' s' one' two' = (z : Start E) → Rises z ws m s one two → Rises z ws' m' s' one' two'
-
-  -- a climb through nodes, the topmost of which had room, ends with one entry
-  abbrev pub Narrows : List Branch → Memory → Reserve → Child → Option Child → Child → Option Child → Type 0
-  Narrows ws m s one two one' two' = (z : Start E) → Rises z ws m s one two → length (K.children (z.memory z.top)) < K.node_cap → length (one_or_two one' two') ≡ 1

@@ -1,12 +1,12 @@
 // What came up from a page goes into the nodes above it, which split where they are full.
-ghost use Rattle.std.specs.Prelude.{◌+◌, ◌*◌, ◌<◌, ◌≤◌, []};
+ghost use Rattle.std.specs.Prelude.{◌*◌, ◌<◌, ◌≤◌, []};
 ghost use Rattle.page.specs.Layout.{entry_of};
 ghost use Rattle.page.specs.View.{entries};
 ghost use Rattle.tree.specs.Climb.{branches};
 ghost use Rattle.seek.specs.Sizes.{longest};
 ghost use Rattle.grow.specs.Asks.{turn_asks};
 ghost use Rattle.grow.specs.Settle.{Settled};
-ghost use Rattle.grow.specs.Rises.{placed, PutIn, Valid, Spent, Ready, CanRise, Climbs, Narrows};
+ghost use Rattle.grow.specs.Rises.{placed, PutIn, Valid, Spent, Ready, CanRise, Climbs};
 
 use crate::settle::settle_node;
 use page::child::Child;
@@ -63,8 +63,6 @@ pub fn climb<K: Kind, W: Store<M>, M>(
     requires rises { CanRise K.Kind.layout (branches blocks.now places.now depth) (memory m.old) reserve.old first second }
     ensures climbs { Climbs K.Kind.layout (branches blocks.now places.now depth) (memory m.old) reserve.old first second [] (memory m.new) reserve.new result.0 result.1 }
     ensures spent { Spent (depth * turn_asks) (memory m.old) (memory m.new) }
-    ensures taken { reserve.old.count ≤ reserve.new.count + depth }
-    ensures narrows { 0 < depth → Narrows K.Kind.layout (branches blocks.now places.now depth) (memory m.old) reserve.old first second result.0 result.1 }
 {
     let mut one = first;
     let mut two = second;

@@ -10,7 +10,6 @@ use crate::leaf::insert_leaf;
 use crate::root::new_root;
 use page::kind::Kind;
 use page::page::Page;
-use patch::place::insert_here;
 use seek::descend::descend;
 use store::Store;
 use store::fresh::Fresh;
@@ -62,10 +61,6 @@ fn insert_below<K: Kind, W: Store<M>, M>(
     ensures { MatchResult result (λ t'. Inserted K.Kind.layout at x t (memory m.old) t' (memory m.new)) (λ _. Undone insert_undone (memory m.old) (memory m.new)) }
 {
     let reached = descend::<K, W, M>(m, t, at, true);
-    if reached.full == 0 {
-        insert_here::<K, W, M>(m, reached, x);
-        return Ok(t);
-    }
     let path = reached.path;
     let mut stock = reserve::<W, M>(m, blocks_for(reached.full, path.depth))?;
     let split = insert_leaf::<K, W, M>(m, reached.leaf, reached.at as usize, x, &mut stock);

@@ -1,8 +1,7 @@
 // The root of a tree, after a climb.
-ghost use Rattle.std.specs.Prelude.{◌≡◌, ◌+◌, ◌<◌, ◌≤◌, T, [], ◌∷◌, length};
+ghost use Rattle.std.specs.Prelude.{◌<◌, ◌≤◌, T, [], ◌∷◌};
 ghost use Rattle.store.specs.Stocked.{Stocked};
 ghost use Rattle.store.specs.Reserve.{uses};
-ghost use Rattle.tree.specs.Climb.{one_or_two};
 ghost use Rattle.tree.specs.Pages.{page_asks};
 ghost use Rattle.grow.specs.Rises.{Spent, CanRise};
 ghost use Rattle.grow.specs.Crown.{Above, Crowns};
@@ -49,9 +48,6 @@ pub fn new_root<K: Kind, W: Store<M>, M>(
     requires rises { CanRise K.Kind.layout [] (memory m.old) reserve.old one two }
     ensures crowns { Crowns K.Kind.layout height (memory m.old) reserve.old one two (memory m.new) reserve.new result }
     ensures spent { Spent page_asks (memory m.old) (memory m.new) }
-    ensures higher { (height ≤ result.height) × (result.height ≤ height + 1) }
-    ensures stays { length (one_or_two one two) ≡ 1 → result.height ≡ height }
-    ensures taken { reserve.old.count + height ≤ reserve.new.count + result.height }
 {
     match two {
         None => Tree {

@@ -20,8 +20,8 @@ pub held_words : (ws xs : List ℕ) (n size b : ℕ) → length (block_of ws xs 
 held_words ws xs n size b h = grind (arith, nat_tests)
 
 -- one word
-pub word_found_at : (ws : List ℕ) (b i : ℕ) → i < block_words → get_or (words_of ws b) i 0 ≡ get_or ws (block_words * b + i) 0
-word_found_at ws b i h = get_or-take block_words (drop (block_words * b) ws) i 0 h ∙ get_or-drop (block_words * b) ws i 0
+pub word_at : (ws : List ℕ) (b i : ℕ) → i < block_words → get_or (words_of ws b) i 0 ≡ get_or ws (block_words * b + i) 0
+word_at ws b i h = get_or-take block_words (drop (block_words * b) ws) i 0 h ∙ get_or-drop (block_words * b) ws i 0
 
 words_many : (ws : List ℕ) (b : ℕ) → block_words * b + block_words ≤ length ws → length (words_of ws b) ≡ block_words
 words_many ws b h = simp (length-take, length-drop) (omega arith)
@@ -71,7 +71,7 @@ module _ (ws xs : List ℕ) (n size : ℕ) (pos : 0 < n) (low : Low xs n size) (
       fun_ext (λ c. let e = among_popped xs n c pos in grind (arith, nat_tests))
 
 pub get_word : (ws xs : List ℕ) (n size b i : ℕ) → length (block_of ws xs n size b) ≡ block_words → i < block_words → get_or ws (block_words * b + i) 0 ≡ get_or (block_of ws xs n size b) i 0
-get_word ws xs n size b i held h = sym (ap (λ (l : List ℕ). get_or l i 0) (held_words ws xs n size b held) ∙ word_found_at ws b i h)
+get_word ws xs n size b i held h = sym (ap (λ (l : List ℕ). get_or l i 0) (held_words ws xs n size b held) ∙ word_at ws b i h)
 
 -- the ground is what its parts are
 pub moved : {ws ws' xs xs' : List ℕ} {n n' : ℕ} {m m' : Meter} (size : ℕ) → ws' ≡ ws → xs' ≡ xs → n' ≡ n → m' ≡ m → lying ws' xs' n' size m' ≡ lying ws xs n size m

@@ -1,11 +1,13 @@
 // The kinds of trees: what stands in their leaves and nodes, and what a node keeps of what is under it.
-ghost use Rattle.std.specs.Prelude.{◌≡◌, ℕ, ◌*◌, ◌<◌, ◌≤◌, T, List, [], ◌∷◌, ◌++◌, length, slice_index};
+ghost use Rattle.std.specs.Prelude.{◌≡◌, ℕ, ◌*◌, ◌<◌, ◌≤◌, T, List, slice_index};
 ghost use Rattle.page.specs.declared.child.Child.{Child};
 ghost use Rattle.page.specs.Layout.{Layout, Lawful, imaged};
 ghost use Rattle.page.specs.Sizes.{block_room};
+ghost use Rattle.page.specs.View.{entries};
 
 use crate::child::Child;
 use crate::codec::Codec;
+use crate::page::Page;
 
 pub mod row;
 pub mod table;
@@ -29,9 +31,10 @@ pub trait Kind {
     fn join(a: u64, b: u64) -> u64
         ensures { result ≡ layout.join a b };
 
-    // What is kept of one item.
-    fn item_summary(x: Self::Item) -> u64
-        ensures { result ≡ layout.summary (x ∷ []) };
+    // What is kept of the items of a leaf.
+    fn leaf_summary(page: &Page<Self::Leaf>) -> u64
+        requires { 0 < page.now.len }
+        ensures { result ≡ layout.summary (entries Self.Leaf.Codec.width Self.Leaf.Codec.decode page.now) };
 
     ghost leaves: { (ws : List ℕ) → layout.items ws ≡ imaged Self.Leaf.Codec.width Self.Leaf.Codec.decode ws };
 
@@ -57,7 +60,4 @@ pub trait Kind {
     ghost blockAt: { (ws : List ℕ) → (Self.Node.Codec.decode ws).block ≡ slice_index ws 1 };
 
     ghost wide: { 20 ≤ layout.node_cap };
-
-    // the first items decide what is kept of all
-    ghost front: { (xs ys : List Self.Item) → 0 < length xs → layout.summary (xs ++ ys) ≡ layout.summary xs };
 }

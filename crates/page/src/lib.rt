@@ -2,6 +2,7 @@
 pub mod child;
 pub mod codec;
 pub mod entry;
+pub mod find;
 pub mod kind;
 pub mod page;
 pub mod sizes;

@@ -16,7 +16,7 @@ pub fn leaf_entry<K: Kind>(block: u64, page: &Page<K::Leaf>) -> Child
     Child {
         count: page.len() as u64,
         block,
-        summary: K::item_summary(page.get(0)),
+        summary: K::leaf_summary(page),
     }
 }
 

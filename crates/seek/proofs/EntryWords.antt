@@ -35,14 +35,6 @@ module _ (b a : ℕ) (ws : List ℕ) (m : Memory) where
       f ∙ ap (written b (a + j) (get_or ws j 0)) e ∙ written_wrote j b (a + j) (get_or ws j 0) (paste old a ws j) (paste old a ws (j + 1)) m (paste_more old a ws j 0 l h)
       ∙ ap (λ (k : ℕ). wrote k b (paste old a ws (j + 1)) m) n
 
--- the first of these words are those of an entry
-pub pasted_as : (b q : ℕ) (enc us : List ℕ) (w : ℕ) → length enc ≡ w → take w us ≡ enc → (p n : ℕ) (m m' : Memory) → p ≡ q → n ≡ w → m' ≡ wrote n b (paste (m.block b) p us n) m → m' ≡ wrote w b (paste (m.block b) q enc w) m
-pasted_as b q enc us w k t p n m m' ep en e =
-    let old : List ℕ = m.block b in
-    let full : take w us ≡ take w enc = t ∙ sym (take_all w enc (omega (arith, k))) in
-    let f : m' ≡ wrote w b (paste old q us w) m = rw (ep, en) at e in
-    f ∙ ap (λ (vs : List ℕ). wrote w b ((take q old ++ vs) ++ drop (q + w) old) m) full
-
 -- at the front
 pub take_pasted : (w : ℕ) (d s : List ℕ) → length s ≡ w → take w (paste d 0 s w) ≡ s
 take_pasted w d s k =
@@ -57,14 +49,6 @@ module _ (h a w : ℕ) (d s : List ℕ) (l : h + a + w ≤ length d) (k : length
   first_pasted : 0 < h → get_or (paste d (h + a) s w) 0 0 ≡ get_or d 0 0
   first_pasted p = grind (arith, places)
 
--- a block was written whose words read as xs
-pub writing_words : {X : Type 0} (read : List ℕ → List X) (b : ℕ) (xs : List X) (k n : ℕ) (zs : List ℕ) (m m' : Memory) → Stored m.block b → length zs ≡ 64 → read zs ≡ xs → n ≤ k → m' ≡ wrote n b zs m → Writing k read b xs m m'
-writing_words read b xs k n zs m m' s long reads q is = record {
-  wrote = record { words = zs; long = long; reads = reads; is = ap (λ (y : Memory). y.block) is };
-  ran = subst (λ (y : Memory). Ran k (hit b) (hit b) m y) (sym is) (ran_more _ _ _ _ _ (ran_wrote n b zs m s (omega (arith, long))) k q);
-  many = ap (λ (y : Memory). y.many) is;
-}
-
 -- the words of entry i of a page are those of x now
 module _ {X : Type 0} (w : ℕ) (dec : List ℕ → X) (read : List ℕ → List X) (law : (ws : List ℕ) → read ws ≡ imaged w dec ws) (i : ℕ) (x : X) (enc : List ℕ) (sized : length enc ≡ w) (back : dec enc ≡ x) where
   pasted_reads : (ws : List ℕ) → i < length (read ws) → length (read ws) * w + 2 ≤ length ws → read (paste ws (2 + i * w) enc w) ≡ set (read ws) i x
@@ -78,13 +62,18 @@ module _ {X : Type 0} (w : ℕ) (dec : List ℕ → X) (read : List ℕ → List
       ∙ rows_set w dec (get_or ws 0 0) i x enc (drop 2 ws) (drop 2 zs) (omega (arith, n)) (rw n at room) sized back (drop_pasted 2 (i * w) w ws enc within sized)
       ∙ ap (λ (es : List X). set es i x) (sym (law ws))
 
-  pub writing_entry : (b k : ℕ) (m m' : Memory) → Stored m.block b → i < length (read (m.block b)) → length (read (m.block b)) * w ≤ 62 → w ≤ k
-      → m' ≡ wrote w b (paste (m.block b) (2 + w * i) enc w) m → Writing k read b (set (read (m.block b)) i x) m m'
-  writing_entry b k m m' s l h q e =
+  pub writing_entry : (b k : ℕ) (us : List ℕ) (m m' : Memory) → Stored m.block b → i < length (read (m.block b)) → length (read (m.block b)) * w ≤ 62 → w ≤ k → take w us ≡ enc
+      → m' ≡ wrote w b (paste (m.block b) (2 + w * i) us w) m → Writing k read b (set (read (m.block b)) i x) m m'
+  writing_entry b k us m m' s l h q t e =
       let old : List ℕ = m.block b in
       let zs : List ℕ = paste old (2 + i * w) enc w in
       let within : 2 + i * w + w ≤ 64 = omega (arith, h, suc-mul i w, mul-le-mul_right {m = suc i} {n = length (read old)} w (omega arith)) in
       let long : length zs ≡ 64 = length-paste old (2 + i * w) enc w (omega (arith, s.1)) (omega (arith, sized)) ∙ s.1 in
       let c : 2 + w * i ≡ 2 + i * w = omega (arith, mul_comm i w) in
-      let is : m' ≡ wrote w b zs m = e ∙ ap (λ (a : ℕ). wrote w b (paste old a enc w) m) c in
-      writing_words read b (set (read old) i x) k w zs m m' s long (pasted_reads old l (omega (arith, h, s.1))) q is
+      let full : take w us ≡ take w enc = t ∙ sym (take_all w enc (omega (arith, sized))) in
+      let is : m' ≡ wrote w b zs m = e ∙ ap (λ (a : ℕ). wrote w b (paste old a us w) m) c ∙ ap (λ (vs : List ℕ). wrote w b ((take (2 + i * w) old ++ vs) ++ drop (2 + i * w + w) old) m) full in
+      record {
+        wrote = record { words = zs; long = long; reads = pasted_reads old l (omega (arith, h, s.1)); is = ap (λ (y : Memory). y.block) is };
+        ran = subst (λ (y : Memory). Ran k (hit b) (hit b) m y) (sym is) (ran_more _ _ _ _ _ (ran_wrote w b zs m s (omega (arith, long))) k q);
+        many = ap (λ (y : Memory). y.many) is;
+      }

@@ -12,13 +12,13 @@ use Rattle.tree.specs.Tall.{tall_contents, tall_uses, Tall}
 use Rattle.tree.specs.Trees.{holds, Lies}
 use Rattle.tree.specs.Paths.{none, Path, before}
 use Rattle.tree.specs.Down.{Down, turn}
-use Rattle.tree.specs.Pages.{Reading}
+use Rattle.tree.specs.Pages.{Reading, page_asks}
 use Rattle.tree.proofs.Entries.{counts_right}
 use Rattle.tree.proofs.Paths.{node_child}
 use Rattle.tree.proofs.Places.{down}
 use Rattle.seek.specs.declared.path.Path.{Path as Nodes}
 use Rattle.seek.specs.declared.step.Step.{Step}
-use Rattle.seek.specs.Asks.{choose_asks, descend_asks}
+use Rattle.seek.specs.Asks.{descend_asks}
 use Rattle.seek.specs.Chosen.{Chosen}
 use Rattle.seek.specs.Descent.{more, nodes, run_after, nodes_full, Descended}
 use Rattle.seek.specs.Sizes.{top_level, longest}
@@ -30,18 +30,18 @@ pub run_le : (run n k : ℕ) → run_after run n k ≤ run + 1
 run_le run n k = elim (eqb n k) as (λ v. cond v (run + 1) 0 ≤ run + 1) [ true ↦ omega arith | false ↦ omega arith ]
 
 module _ {E : Type 0} (K : Layout E) where
-  pub sound_stored : (h : ℕ) (f : Mem) (b : ℕ) → Sound K h f b → Stored f b
+  sound_stored : (h : ℕ) (f : Mem) (b : ℕ) → Sound K h f b → Stored f b
   unfolding Sound
   sound_stored zero f b s = s.0
   sound_stored (suc h) f b s = s.0
 
   -- the topmost page has entries
-  pub root_some : (h : ℕ) (f : Mem) (b : ℕ) → Root K h f b → 0 < many K h (f b)
+  root_some : (h : ℕ) (f : Mem) (b : ℕ) → Root K h f b → 0 < many K h (f b)
   unfolding least
   root_some zero f b w = omega (arith, w.full)
   root_some (suc h) f b w = omega (arith, w.full)
 
-  pub child_some : Lawful K → (h : ℕ) (f : Mem) (k : Child) → ChildOk K h f k → 0 < many K h (f k.block)
+  child_some : Lawful K → (h : ℕ) (f : Mem) (k : Child) → ChildOk K h f k → 0 < many K h (f k.block)
   unfolding low
   child_some g zero f k w = omega (arith, w.full, g.leaf_room)
   child_some g (suc h) f k w = omega (arith, w.full, g.node_room)
@@ -52,7 +52,7 @@ module _ {E : Type 0} (K : Layout E) where
     pub some : 0 < many K level (m.block b)
     pub deep : ns.depth + level ≡ H
     pub shallow : H ≤ top_level
-    pub read : Reading (ns.depth * choose_asks) m m'
+    pub read : Reading (ns.depth * page_asks) m m'
     pub run : full ≡ nodes_full K m.block (nodes ns)
     pub short : full ≤ ns.depth
 
@@ -110,7 +110,7 @@ module _ {E : Type 0} (K : Layout E) where
       some_here : 0 < many K (suc h) (f b)
       some_here = subst (λ (x : ℕ). 0 < many K x (f b)) (let e : level ≡ suc h = omega arith in e) z.some
 
-      pub asks_of_node : descend_asks ≤ m.left → choose_asks ≤ m'.left
+      pub asks_of_node : descend_asks ≤ m.left → page_asks ≤ m'.left
       asks_of_node l = omega (arith, z.deep, z.shallow, reading_left _ m m' z.read)
 
       pub node_few : length (K.children (m'.block b)) ≤ K.node_cap
@@ -154,7 +154,7 @@ module _ {E : Type 0} (K : Layout E) where
                 omega (arith, under, counts_more (K.children (f b)) i k in_node (λ d. get d ∙ ap (λ (xs : List Child). get_or xs i d) same), ap (λ (x : ℕ). counts (take x (K.children (f b)))) (add-one i))
 
             pub going_turn : Lawful K → (ns' : Nodes) → ns'.blocks ≡ set ns.blocks ns.depth b → ns'.places ≡ set ns.places ns.depth i → ns'.depth ≡ ns.depth + 1
-                → (full' : ℕ) → full' ≡ run_after full (length ks) K.node_cap → (m'' : Memory) → Reading choose_asks m' m'' → Going m H r p gap h k.block ns' rest' full' m''
+                → (full' : ℕ) → full' ≡ run_after full (length ks) K.node_cap → (m'' : Memory) → Reading page_asks m' m'' → Going m H r p gap h k.block ns' rest' full' m''
             unfolding nodes_full
             going_turn g ns' eb ep ed full' ef m'' q =
                 let n : nodes ns' ≡ record { block = b; place = i } ∷ nodes ns = branches_push ns.blocks ns.places ns'.blocks ns'.places ns.depth ns'.depth b i (omega (arith, ns.long, going_depth)) (omega (arith, ns.wide, going_depth)) eb ep ed in
@@ -165,14 +165,14 @@ module _ {E : Type 0} (K : Layout E) where
                   some = child_some g h f k child_ok;
                   deep = omega (arith, z.deep);
                   shallow = z.shallow;
-                  read = reading_then (ns.depth * choose_asks) choose_asks (ns'.depth * choose_asks) m m' m'' (omega (arith, ed)) z.read q;
+                  read = reading_then (ns.depth * page_asks) page_asks (ns'.depth * page_asks) m m' m'' (omega (arith, ed)) z.read q;
                   run = ef ∙ rw n (ap₂ (λ (x y : ℕ). run_after x y K.node_cap) z.run (ap length same));
                   short = omega (arith, ef, run_le full (length ks) K.node_cap, z.short);
                 }
 
       -- by the step that was chosen
       pub going_chosen : (s : Step) → Chosen (K.children (m'.block b)) rest gap s → Lawful K → (ns' : Nodes) → ns'.blocks ≡ set ns.blocks ns.depth b → ns'.places ≡ set ns.places ns.depth s.child → ns'.depth ≡ ns.depth + 1
-          → (full' : ℕ) → full' ≡ run_after full (length (K.children (m'.block b))) K.node_cap → (m'' : Memory) → Reading choose_asks m' m'' → Going m H r p gap h s.block ns' s.rest full' m''
+          → (full' : ℕ) → full' ≡ run_after full (length (K.children (m'.block b))) K.node_cap → (m'' : Memory) → Reading page_asks m' m'' → Going m H r p gap h s.block ns' s.rest full' m''
       going_chosen s c g ns' eb ep ed full' ef m'' q =
           let ks = K.children (m'.block b) in
           let any : (d : Child) → get_or ks s.child none ≡ get_or ks s.child d = λ d. get_or_default ks s.child none d c.child in
@@ -180,14 +180,10 @@ module _ {E : Type 0} (K : Layout E) where
 
   -- at the leaf
   pub going_end : (m m' : Memory) (t : Tree) (p : ℕ) (gap : Bool) (level b : ℕ) (ns : Nodes) (rest full : ℕ) → Going m (t.height - 1) t.root p gap level b ns rest full m' → 0 < t.height → level ≡ 0
-      → (n : ℕ) → n ≡ length (K.items (m'.block b)) → (full' : ℕ) → full' ≡ run_after full n K.leaf_cap → (m'' : Memory) → m'' ≡ asked 1 m' → Descended K m t p gap (record { path = ns; leaf = b; items = n; at = rest; full = full' }) m''
-  going_end m m' t p gap level b ns rest full z l e n en full' ef m'' q = record {
+      → (full' : ℕ) → full' ≡ run_after full (length (K.items (m'.block b))) K.leaf_cap → (m'' : Memory) → m'' ≡ asked 1 m' → Descended K m t p gap (record { path = ns; leaf = b; at = rest; full = full' }) m''
+  going_end m m' t p gap level b ns rest full z l e full' ef m'' q = record {
     down = subst (λ (x : ℕ). Down K m.block (t.height - 1) t.root p (more gap) x b (nodes ns) rest) e z.place;
     deep = omega (arith, z.deep);
-    items = en ∙ here;
-    full = ef ∙ ap₂ (λ (x y : ℕ). run_after x y K.leaf_cap) z.run (en ∙ here);
-    same = reading_then (ns.depth * choose_asks) 1 descend_asks m m' m'' (omega (arith, z.deep, z.shallow)) z.read (reading_asked 1 1 m' m'' (omega arith) q);
+    full = ef ∙ ap₂ (λ (x : ℕ) (ws : List ℕ). run_after x (length (K.items ws)) K.leaf_cap) z.run (same_page m m' (t.height - 1) t.root p gap level b ns rest full z);
+    same = reading_then (ns.depth * page_asks) 1 descend_asks m m' m'' (omega (arith, z.deep, z.shallow)) z.read (reading_asked 1 1 m' m'' (omega arith) q);
   }
-    where
-      here : length (K.items (m'.block b)) ≡ length (K.items (m.block b))
-      here = ap (λ (ws : List ℕ). length (K.items ws)) (same_page m m' (t.height - 1) t.root p gap level b ns rest full z)

@@ -2,19 +2,16 @@
 -- Assumes nothing.
 use Rattle.std.specs.Prelude.{ℕ, ◌+◌, ◌*◌}
 use Rattle.page.specs.Sizes.{width_limit}
-use Rattle.seek.specs.Sizes.{top_level, most_children}
+use Rattle.tree.specs.Pages.{page_asks}
+use Rattle.seek.specs.Sizes.{top_level}
 
 -- how many children the root has, and their counts
 abbrev pub length_asks : ℕ
-length_asks = 1 + most_children
-
--- how many children a node has, their counts until the child is found, and its block
-abbrev pub choose_asks : ℕ
-choose_asks = 1 + most_children + 1
+length_asks = page_asks
 
 -- a node at each level, and how many items the leaf has
 abbrev pub descend_asks : ℕ
-descend_asks = top_level * choose_asks + 1
+descend_asks = top_level * page_asks + 1
 
 -- the words of an item are read, or written
 abbrev pub item_asks : ℕ

@@ -38,6 +38,5 @@ module _ {E : Type 0} (K : Layout E) where
   pub record Descended (m : Memory) (t : Tree) (p : ℕ) (gap : Bool) (r : Reached) (m' : Memory) : Type 0 where
     pub down : Down K m.block (t.height - 1) t.root p (more gap) 0 r.leaf (nodes r.path) r.at
     pub deep : r.path.depth + 1 ≡ t.height
-    pub items : r.items ≡ length (K.items (m.block r.leaf))
     pub full : r.full ≡ full_run m.block r.leaf (nodes r.path)
     pub same : Reading descend_asks m m'

@@ -9,7 +9,3 @@ top_level = 6
 -- a path has room for so many nodes
 abbrev pub longest : ℕ
 longest = 8
-
--- a node has room for so many children at most, of two words each at least
-abbrev pub most_children : ℕ
-most_children = 31

@@ -2,8 +2,7 @@
 ghost use Rattle.std.specs.Prelude.{◌≡◌, ◌+◌, ◌<◌, ◌≤◌, length, nat_lt};
 ghost use Rattle.page.specs.Layout.{counts};
 ghost use Rattle.store.specs.Memory.{Stored};
-ghost use Rattle.tree.specs.Pages.{Reading};
-ghost use Rattle.seek.specs.Asks.{choose_asks};
+ghost use Rattle.tree.specs.Pages.{page_asks, Reading};
 ghost use Rattle.seek.specs.Descent.{more};
 ghost use Rattle.seek.specs.Chosen.{Chosen};
 
@@ -21,13 +20,13 @@ fn takes(count: u64, rest: u64, gap: bool) -> bool
 
 // The child of the node at block b that an item is under, or a gap between items: counts are read until it is found.
 pub fn choose_child<K: Kind, W: Store<M>, M>(m: &mut M, b: u32, at: u64, gap: bool) -> Step
-    requires asks { choose_asks ≤ (memory m.old).left }
+    requires asks { page_asks ≤ (memory m.old).left }
     requires there { Stored (memory m.old).block b }
     requires few { length (K.Kind.layout.children ((memory m.old).block b)) ≤ K.Kind.layout.node_cap }
     requires some { 0 < length (K.Kind.layout.children ((memory m.old).block b)) }
     requires inside { at < counts (K.Kind.layout.children ((memory m.old).block b)) + more gap }
     ensures chosen { Chosen (K.Kind.layout.children ((memory m.old).block b)) at gap result }
-    ensures same { Reading choose_asks (memory m.old) (memory m.new) }
+    ensures same { Reading page_asks (memory m.old) (memory m.new) }
 {
     let entries = number_of_children::<K, W, M>(m, b);
     let mut rest = at;

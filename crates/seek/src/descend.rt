@@ -46,7 +46,6 @@ pub fn descend<K: Kind, W: Store<M>, M>(m: &mut M, t: Tree, at: u64, gap: bool) 
     Reached {
         path,
         leaf: b,
-        items,
         at: rest,
         full: run_on(full, items as usize, K::leaf_cap()),
     }

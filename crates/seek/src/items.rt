@@ -8,13 +8,15 @@ ghost use Rattle.seek.specs.Asks.{item_asks, at_asks, set_asks};
 ghost use Rattle.seek.specs.Items.{Updated};
 
 use crate::descend::descend;
-use crate::entry::{read_entry, write_entry};
+use crate::entry::{load_entry, store_entry};
+use page::codec::Codec;
 use page::kind::Kind;
+use page::sizes::WORDS;
 use store::Store;
 use tree::top::Tree;
 
 // Which entry of a leaf is at a place.
-pub fn entry_number(at: u64) -> u32
+fn entry_number(at: u64) -> u32
     requires { at < block_room }
     ensures { result ≡ at }
 {
@@ -22,7 +24,7 @@ pub fn entry_number(at: u64) -> u32
 }
 
 // The item at a place of a leaf.
-pub fn read_item<K: Kind, W: Store<M>, M>(m: &mut M, leaf: u32, at: u64) -> K::Item
+fn read_item<K: Kind, W: Store<M>, M>(m: &mut M, leaf: u32, at: u64) -> K::Item
     requires asks { item_asks ≤ (memory m.old).left }
     requires there { Stored (memory m.old).block leaf }
     requires few { length (K.Kind.layout.items ((memory m.old).block leaf)) ≤ K.Kind.layout.leaf_cap }
@@ -30,18 +32,21 @@ pub fn read_item<K: Kind, W: Store<M>, M>(m: &mut M, leaf: u32, at: u64) -> K::I
     ensures value { (d : K.Item) → result ≡ slice_index_or (K.Kind.layout.items ((memory m.old).block leaf)) at d }
     ensures same { Reading item_asks (memory m.old) (memory m.new) }
 {
-    read_entry::<K::Leaf, W, M>(m, leaf, entry_number(at))
+    let words = load_entry::<K::Leaf, W, M>(m, leaf, entry_number(at));
+    K::Leaf::read(&words, 0)
 }
 
 // The item at a place of a leaf becomes x.
-pub fn write_item<K: Kind, W: Store<M>, M>(m: &mut M, leaf: u32, at: u64, x: K::Item)
+fn write_item<K: Kind, W: Store<M>, M>(m: &mut M, leaf: u32, at: u64, x: K::Item)
     requires asks { item_asks ≤ (memory m.old).left }
     requires there { Stored (memory m.old).block leaf }
     requires few { length (K.Kind.layout.items ((memory m.old).block leaf)) ≤ K.Kind.layout.leaf_cap }
     requires inside { at < length (K.Kind.layout.items ((memory m.old).block leaf)) }
     ensures { Writing item_asks K.Kind.layout.items leaf (put (K.Kind.layout.items ((memory m.old).block leaf)) at x) (memory m.old) (memory m.new) }
 {
-    write_entry::<K::Leaf, W, M>(m, leaf, entry_number(at), x);
+    let mut words = [0; WORDS];
+    K::Leaf::write(x, &mut words, 0);
+    store_entry::<K::Leaf, W, M>(m, leaf, entry_number(at), &words);
 }
 
 // The item at i.

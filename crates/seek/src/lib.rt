@@ -1,12 +1,11 @@
 // The path down to a place in a tree, and what reads and sets an item.
 mod choose;
 pub mod descend;
-pub mod entry;
+mod entry;
 pub mod items;
 pub mod nodes;
 pub mod path;
 pub mod reached;
-pub mod run;
 pub mod size;
 mod step;
-pub mod words;
+mod words;

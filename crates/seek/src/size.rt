@@ -2,7 +2,7 @@
 ghost use Rattle.std.specs.Prelude.{◌≡◌, ◌+◌, ◌^◌, ◌<◌, ◌≤◌, length};
 ghost use Rattle.page.specs.Layout.{counts};
 ghost use Rattle.store.specs.Memory.{Stored};
-ghost use Rattle.tree.specs.Pages.{Reading};
+ghost use Rattle.tree.specs.Pages.{page_asks, Reading};
 ghost use Rattle.tree.specs.Trees.{holds, Lies};
 ghost use Rattle.seek.specs.Asks.{length_asks};
 
@@ -13,12 +13,12 @@ use tree::top::Tree;
 
 // How many items are under the children of the node at block b: the count of each is read, and nothing else.
 fn total<K: Kind, W: Store<M>, M>(m: &mut M, b: u32) -> u64
-    requires asks { length_asks ≤ (memory m.old).left }
+    requires asks { page_asks ≤ (memory m.old).left }
     requires there { Stored (memory m.old).block b }
     requires few { length (K.Kind.layout.children ((memory m.old).block b)) ≤ K.Kind.layout.node_cap }
     requires low { counts (K.Kind.layout.children ((memory m.old).block b)) < 2 ^ 64 }
     ensures value { result ≡ counts (K.Kind.layout.children ((memory m.old).block b)) }
-    ensures same { Reading length_asks (memory m.old) (memory m.new) }
+    ensures same { Reading page_asks (memory m.old) (memory m.new) }
 {
     let children = number_of_children::<K, W, M>(m, b);
     let mut sum = 0;

@@ -1,8 +1,7 @@
 // Single words of the pages of a tree, read where they lie.
 ghost use Rattle.std.specs.Prelude.{◌≡◌, ◌+◌, ◌*◌, ◌<◌, ◌≤◌, length, slice_index, slice_index_or};
-ghost use Rattle.store.specs.Memory.{Stored, asked, written};
+ghost use Rattle.store.specs.Memory.{Stored, asked};
 ghost use Rattle.tree.specs.Paths.{none};
-ghost use Rattle.seek.specs.Sizes.{most_children};
 ghost use Rattle.seek.specs.Words.{word_of_entry};
 
 use page::codec::Codec;
@@ -23,17 +22,9 @@ pub fn number_of_entries<W: Store<M>, M>(m: &mut M, b: u32) -> u64
     W::get(m, b, ENTRIES)
 }
 
-// The page at block b has so many entries now.
-pub fn set_number_of_entries<W: Store<M>, M>(m: &mut M, b: u32, n: u64)
-    requires { (0 < (memory m.old).left) × (Stored (memory m.old).block b) }
-    ensures { memory m.new ≡ written b 0 n (memory m.old) }
-{
-    W::put(m, b, ENTRIES, n);
-}
-
 // The word in which entry i begins.
 pub fn entry_word<C: Codec>(i: u32) -> u32
-    requires { word_of_entry C.Codec.width i ≤ 64 }
+    requires { word_of_entry C.Codec.width i < 64 }
     ensures { result ≡ word_of_entry C.Codec.width i }
 {
     FIRST_ENTRY + C::width() as u32 * i
@@ -45,7 +36,7 @@ pub fn number_of_children<K: Kind, W: Store<M>, M>(m: &mut M, b: u32) -> u32
     requires there { Stored (memory m.old).block b }
     requires few { length (K.Kind.layout.children ((memory m.old).block b)) ≤ K.Kind.layout.node_cap }
     ensures value { result ≡ length (K.Kind.layout.children ((memory m.old).block b)) }
-    ensures small { result ≤ most_children }
+    ensures small { result ≤ 62 }
     ensures same { memory m.new ≡ asked 1 (memory m.old) }
 {
     number_of_entries::<W, M>(m, b) as u32

@@ -75,12 +75,11 @@ module _ {X : Type 0} (read : List ℕ → List X) (cap a b : ℕ) (m m₁ m₂ 
   })
 
   pub in_two : (ys : List X) (m₄ : Memory) → Writing page_asks read b ys m₃ m₄ → xs ++ ys ≡ read (m.block a) ++ read (m.block b)
-      → (length xs ≤ cap) × (length ys ≤ cap) → (half cap ≤ length xs) × (half cap ≤ length ys) → cap < length xs + length ys → InTwo read share_asks cap a b m xs ys m₄
-  in_two ys m₄ w₄ same few full over = record {
+      → (length xs ≤ cap) × (length ys ≤ cap) → (half cap ≤ length xs) × (half cap ≤ length ys) → InTwo read share_asks cap a b m xs ys m₄
+  in_two ys m₄ w₄ same few full = record {
     same = same;
     few = few;
     full = full;
-    over = over;
     first = ap (λ (f : Mem). read (f a)) w₄.wrote.is ∙ ap read (at_other b w₄.wrote.words m₃.block a apart) ∙ wrote_reads read m₂.block m₃.block a xs w₃.wrote;
     second = wrote_reads read m₃.block m₄.block b ys w₄.wrote;
     there = stored_after read m₃.block m₄.block b a ys w₄.wrote (stored_three a sa);
@@ -95,10 +94,10 @@ module _ {X : Type 0} (read : List ℕ → List X) (cap a b : ℕ) (m m₁ m₂ 
   pub code_even : {P : Type 0} (view : P → List X) (merged : Bool) (page : P) (o : Option P) (m₄ : Memory) → 0 < m.many
       → (merged ≡ true → (o ≡ None) × (m₄ ≡ released b m₃)) → (merged ≡ false → (o ≡ Some page) × Writing page_asks read b (view page) m₃ m₄)
       → (merged ≡ true → (xs ≡ read (m.block a) ++ read (m.block b)) × (length xs ≤ cap))
-      → (merged ≡ false → (xs ++ view page ≡ read (m.block a) ++ read (m.block b)) × ((length xs ≤ cap) × (length (view page) ≤ cap)) × ((half cap ≤ length xs) × (half cap ≤ length (view page))) × (cap < length xs + length (view page)))
+      → (merged ≡ false → (xs ++ view page ≡ read (m.block a) ++ read (m.block b)) × ((length xs ≤ cap) × (length (view page) ≤ cap)) × ((half cap ≤ length xs) × (half cap ≤ length (view page))))
       → MatchOption o (InOne read share_asks cap a b m xs m₄) (λ r. InTwo read share_asks cap a b m xs (view r) m₄)
   code_even {P} view true page o m₄ l p q s t = subst (λ (x : Option P). MatchOption x (InOne read share_asks cap a b m xs m₄) (λ r. InTwo read share_asks cap a b m xs (view r) m₄)) (sym (p refl).0) (in_one m₄ (p refl).1 l (s refl).0 (s refl).1)
-  code_even {P} view false page o m₄ l p q s t = subst (λ (x : Option P). MatchOption x (InOne read share_asks cap a b m xs m₄) (λ r. InTwo read share_asks cap a b m xs (view r) m₄)) (sym (q refl).0) (in_two (view page) m₄ (q refl).1 (t refl).0 (t refl).1 (t refl).2 (t refl).3)
+  code_even {P} view false page o m₄ l p q s t = subst (λ (x : Option P). MatchOption x (InOne read share_asks cap a b m xs m₄) (λ r. InTwo read share_asks cap a b m xs (view r) m₄)) (sym (q refl).0) (in_two (view page) m₄ (q refl).1 (t refl).0 (t refl).1 (t refl).2)
 
 -- what is read by one name is read by another
 module _ {X : Type 0} (read read' : List ℕ → List X) (same : (ws : List ℕ) → read' ws ≡ read ws) (k cap a b : ℕ) (m : Memory) where
@@ -110,7 +109,6 @@ module _ {X : Type 0} (read read' : List ℕ → List X) (same : (ws : List ℕ)
     same = p.same ∙ rw (same (m.block a), same (m.block b)) refl;
     few = p.few;
     full = p.full;
-    over = p.over;
     first = same (m'.block a) ∙ p.first;
     second = same (m'.block b) ∙ p.second;
     there = p.there;

@@ -12,4 +12,3 @@ pub mod CodeTurns
 pub mod CodeClimb
 pub mod CodeTop
 pub mod Deletes
-pub mod Sparing

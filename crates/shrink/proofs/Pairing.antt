@@ -5,7 +5,7 @@ use Rattle.page.specs.Layout.{Layout, Lawful, half, imaged, entry_of, entry_of_l
 use Rattle.store.specs.Memory.{Memory, Stored}
 use Rattle.store.specs.Steps.{Mem, hit}
 use Rattle.tree.specs.Climb.{one_or_two}
-use Rattle.tree.specs.Tree.{uses, many, Sound}
+use Rattle.tree.specs.Tree.{uses, many, low, Sound}
 use Rattle.seek.proofs.Imaged.{first_word}
 use Rattle.shrink.specs.Asks.{share_asks}
 use Rattle.shrink.specs.Sharing.{InOne, InTwo, Neighbours, Shared}
@@ -61,7 +61,7 @@ module _ {E : Type 0} (K : Layout E) where
 module _ {P X : Type 0} (view : P → List X) (read read' : List ℕ → List X) (same : (ws : List ℕ) → read' ws ≡ read ws) (cap a b : ℕ) (m m' : Memory) (l : P) (o : Option P)
     (v : MatchOption o (InOne read share_asks cap a b m (view l) m') (λ r. InTwo read share_asks cap a b m (view l) (view r) m')) where
   -- the first page has some entries
-  pub first_some : 0 < half cap → 1 ≤ length (read' (m.block a)) + length (read' (m.block b)) → 0 < length (view l)
+  pub first_some : 0 < half cap → half cap ≤ length (read' (m.block a)) + length (read' (m.block b)) → 0 < length (view l)
   first_some s e = go o v
     where
       go : (x : Option P) → MatchOption x (InOne read share_asks cap a b m (view l) m') (λ r. InTwo read share_asks cap a b m (view l) (view r) m') → 0 < length (view l)
@@ -97,13 +97,13 @@ module _ {P X : Type 0} (view : P → List X) (read read' : List ℕ → List X)
   to_one is entry S f k ek = subst (λ (x : Child). S (one_or_two x None)) (sym ek) (f (view l) (in_one_as read read' same share_asks cap a b m (view l) m' (case_none (InOne read share_asks cap a b m (view l) m') (λ x. InTwo read share_asks cap a b m (view l) (view x) m') o is v)))
 
 module _ {E : Type 0} (K : Layout E) (lw : Lawful K) (a b : ℕ) (m : Memory) where
-  pub leaves_filled : Neighbours K 0 a b m → 1 ≤ length (K.items (m.block a)) + length (K.items (m.block b))
-  unfolding many
-  leaves_filled n = n.filled
+  pub leaves_enough : (cap : ℕ) → cap ≡ K.leaf_cap → Neighbours K 0 a b m → half cap ≤ length (K.items (m.block a)) + length (K.items (m.block b))
+  unfolding low many
+  leaves_enough cap e n = omega (arith, e, n.enough)
 
-  pub nodes_filled : (h : ℕ) → Neighbours K (suc h) a b m → 1 ≤ length (K.children (m.block a)) + length (K.children (m.block b))
-  unfolding many
-  nodes_filled h n = n.filled
+  pub nodes_enough : (cap h : ℕ) → cap ≡ K.node_cap → Neighbours K (suc h) a b m → half cap ≤ length (K.children (m.block a)) + length (K.children (m.block b))
+  unfolding low many
+  nodes_enough cap h e n = omega (arith, e, n.enough)
 
   pub leaves_shared : (cap : ℕ) (m' : Memory) (xs : List E) → cap ≡ K.leaf_cap → Neighbours K 0 a b m → InOne K.items share_asks cap a b m xs m' → Shared K share_asks 0 a b m (one_or_two (entry_of_leaf K a xs) None) m'
   leaves_shared cap m' xs e n p = leaves_one K share_asks a b m n xs m' (subst (λ (c : ℕ). InOne K.items share_asks c a b m xs m') e p)

@@ -4,8 +4,7 @@ use Rattle.page.specs.declared.child.Child.{Child}
 use Rattle.page.specs.Layout.{Layout}
 use Rattle.store.specs.Steps.{Mem}
 use Rattle.tree.specs.Climb.{one_or_two}
-use Rattle.tree.specs.Growing.{Loose}
-use Rattle.tree.specs.Tree.{All, contents, ChildOk}
+use Rattle.tree.specs.Tree.{All, contents, ChildOk, ChildrenOk}
 use Rattle.tree.proofs.Each.{All-map}
 
 set_two : {X : Type 0} (es : List X) (i : ℕ) (a b : X) → suc i < length es → set (set es i a) (suc i) b ≡ take i es ++ (a ∷ (b ∷ drop (suc (suc i)) es))
@@ -48,5 +47,5 @@ module _ {E : Type 0} (K : Layout E) (valid : Child → Bool) (law : (n b : ℕ)
   pub child_valid : (h : ℕ) (f : Mem) (k : Child) → ChildOk K h f k → T (valid k)
   child_valid h f k x = subst (λ (s : ℕ). T (valid (record { count = k.count; block = k.block; summary = s }))) (sym x.summed) (law k.count k.block (contents K h f k.block))
 
-  pub loose_valid : (h : ℕ) (f : Mem) (ks : List Child) → All (Loose K h f) ks → All (λ k. T (valid k)) ks
-  loose_valid h f ks a = All-map (Loose K h f) (λ k. T (valid k)) (λ k x. subst (λ (s : ℕ). T (valid (record { count = k.count; block = k.block; summary = s }))) (sym x.summed) (law k.count k.block (contents K h f k.block))) ks a
+  pub children_valid : (h : ℕ) (f : Mem) (ks : List Child) → ChildrenOk K h f ks → All (λ k. T (valid k)) ks
+  children_valid h f ks a = All-map (ChildOk K h f) (λ k. T (valid k)) (child_valid h f) ks a

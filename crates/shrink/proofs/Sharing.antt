@@ -1,23 +1,21 @@
 -- Two neighbours whose entries were put onto one page, or evenly onto both.
-use Rattle.std.proofs.Common.{◌≡◌, ℕ, suc, ◌+◌, ◌^◌, ◌<◌, ◌≤◌, List, [], ◌∷◌, ◌++◌, length, Some, None, sym, refl, ap, ◌∙◌, subst, append-nil, arith, length-append}
+use Rattle.std.proofs.Common.{◌≡◌, ℕ, suc, ◌+◌, ◌^◌, ◌<◌, ◌≤◌, List, [], ◌∷◌, ◌++◌, length, Some, None, sym, ap, ◌∙◌, subst, append-nil, arith, length-append}
 use Rattle.page.specs.declared.child.Child.{Child}
-use Rattle.page.specs.Layout.{Layout, Lawful, counts, entry_of, entry_of_leaf}
+use Rattle.page.specs.Layout.{Layout, Lawful, half, counts, entry_of, entry_of_leaf}
 use Rattle.store.specs.Memory.{Memory}
 use Rattle.store.specs.Steps.{Mem, Ran, Step, hit, held}
 use Rattle.store.proofs.Stepping.{step_as, step_same}
 use Rattle.tree.specs.Climb.{one_or_two}
 use Rattle.tree.specs.Tree.{total, flat, All, contents, uses, many, low, Sound, contents_of, uses_of, ChildOk, ChildrenOk, under}
-use Rattle.tree.specs.Growing.{Loose}
 use Rattle.tree.specs.Rising.{Repaged}
-use Rattle.tree.proofs.Each.{flat_append, All-map, All-++, All-left, All-right}
+use Rattle.tree.proofs.Each.{flat_append, All-++, All-left, All-right}
 use Rattle.tree.proofs.Frames.{frame_all}
 use Rattle.tree.proofs.Levels.{uses_under}
 use Rattle.tree.proofs.Entries.{counts_right}
-use Rattle.tree.proofs.Grows.{loose_node}
 use Rattle.tree.proofs.Leaves.{one_leaf}
 use Rattle.tree.proofs.Settle.{one_node}
 use Rattle.tree.proofs.Mending.{repage_leaves, repage_nodes}
-use Rattle.shrink.specs.Sharing.{InOne, InTwo, room, Neighbours, Shared}
+use Rattle.shrink.specs.Sharing.{InOne, InTwo, Neighbours, Shared}
 
 -- the same run, with another step
 ran_with : (k : ℕ) (u u' v v' : ℕ → ℕ) (m m' : Memory) → Ran k u u' m m' → Step v v' m.block m'.block → Ran k v v' m m'
@@ -34,71 +32,51 @@ module _ {E : Type 0} (K : Layout E) (k a b : ℕ) (m : Memory) where
   abbrev both : List Child
   both = only a ∷ (only b ∷ [])
 
-  -- onto one page
-  one_page : (h : ℕ) (u u' : ℕ → ℕ) (x : Child) (m' : Memory) → Ran k u u' m m' → Repaged K h g m'.block (λ c. 0) (λ c. 0) both (x ∷ [])
-      → Loose K h m'.block x → many K h (m'.block x.block) ≡ many K h (g a) + many K h (g b) → Shared K k h a b m (x ∷ []) m'
-  unfolding total flat All
-  one_page h u u' x m' r p ok e = record {
-    ran = ran_with k u u' _ _ m m' r (step_as _ _ _ _ g m'.block (λ c. omega arith) (λ c. omega arith) p.all);
-    same = p.same_contents ∙ ap (λ (xs : List E). contents K h g a ++ xs) (append-nil (contents K h g b));
-    loose = (ok, tt);
-    full = λ n o l. (omega (arith, e, l), tt);
-    parted = λ l. absurd (omega arith);
-    over = λ l. absurd (omega arith);
-    some = omega arith;
-    few = omega arith;
-  }
-
-  -- onto two
-  two_pages : (h : ℕ) (u u' : ℕ → ℕ) (x y : Child) (m' : Memory) → Ran k u u' m m' → Repaged K h g m'.block (λ c. 0) (λ c. 0) both (x ∷ (y ∷ []))
-      → ChildrenOk K h m'.block (x ∷ (y ∷ [])) → room K h < many K h (g a) + many K h (g b) → Shared K k h a b m (x ∷ (y ∷ [])) m'
+  shared_of : (h : ℕ) (u u' : ℕ → ℕ) (ns : List Child) (m' : Memory) → Ran k u u' m m' → Repaged K h g m'.block (λ c. 0) (λ c. 0) both ns → ChildrenOk K h m'.block ns → 1 ≤ length ns → length ns ≤ 2 → Shared K k h a b m ns m'
   unfolding total flat
-  two_pages h u u' x y m' r p ok e = record {
+  shared_of h u u' ns m' r p ok some few = record {
     ran = ran_with k u u' _ _ m m' r (step_as _ _ _ _ g m'.block (λ c. omega arith) (λ c. omega arith) p.all);
     same = p.same_contents ∙ ap (λ (xs : List E). contents K h g a ++ xs) (append-nil (contents K h g b));
-    loose = All-map (ChildOk K h m'.block) (Loose K h m'.block) (λ j c. record { sound = c.sound; counted = c.counted; summed = c.summed }) (x ∷ (y ∷ [])) ok;
-    full = λ n o l. All-map (ChildOk K h m'.block) (λ j. n ≤ many K h (m'.block j.block)) (λ j c. omega (arith, o, c.full)) (x ∷ (y ∷ [])) ok;
-    parted = λ l. All-map (ChildOk K h m'.block) (λ j. low K h ≤ many K h (m'.block j.block)) (λ j c. c.full) (x ∷ (y ∷ [])) ok;
-    over = λ l. e;
-    some = omega arith;
-    few = omega arith;
+    children = ok;
+    some = some;
+    few = few;
   }
 
   -- leaves
   module _ (n : Neighbours K 0 a b m) where
-    leaf_sum : (xs : List E) → xs ≡ K.items (g a) ++ K.items (g b) → length xs ≡ many K 0 (g a) + many K 0 (g b)
-    unfolding many
-    leaf_sum xs e = ap length e ∙ length-append (K.items (g a)) (K.items (g b))
+    leaf_sum : (xs : List E) → xs ≡ K.items (g a) ++ K.items (g b) → half K.leaf_cap ≤ length xs
+    unfolding low many
+    leaf_sum xs e = omega (arith, n.enough, ap length e, length-append (K.items (g a)) (K.items (g b)))
 
     leaf_fits : (c : ℕ) → uses_of K 0 g both c + 0 ≤ held g c
     unfolding total
     leaf_fits c = omega (arith, n.apart c)
 
     pub leaves_one : (xs : List E) (m' : Memory) → InOne K.items k K.leaf_cap a b m xs m' → Shared K k 0 a b m (one_or_two (entry_of_leaf K a xs) None) m'
-    unfolding total flat one_or_two many contents Sound
-    leaves_one xs m' p = one_page 0 _ _ (entry_of_leaf K a xs) m' p.ran
+    unfolding total flat All one_or_two
+    leaves_one xs m' p = shared_of 0 _ _ (entry_of_leaf K a xs ∷ []) m' p.ran
         (repage_leaves K g m'.block (λ c. 0) (λ c. 0) both (entry_of_leaf K a xs ∷ [])
         (record { fits = leaf_fits; writes = step_as _ _ _ _ g m'.block (λ c. omega arith) (λ c. omega arith) p.ran.step })
         (append-nil (K.items (m'.block a)) ∙ p.reads ∙ p.same ∙ ap (λ (ys : List E). K.items (g a) ++ ys) (sym (append-nil (K.items (g b))))))
-        (record { sound = (p.there, rw p.reads p.few); counted = rw p.reads refl; summed = rw p.reads refl }) (ap length p.reads ∙ leaf_sum xs p.same)
+        (one_leaf K m'.block a xs p.there p.reads (leaf_sum xs p.same) p.few, tt) (omega arith) (omega arith)
 
     pub leaves_two : (xs ys : List E) (m' : Memory) → InTwo K.items k K.leaf_cap a b m xs ys m' → Shared K k 0 a b m (one_or_two (entry_of_leaf K a xs) (Some (entry_of_leaf K b ys))) m'
-    unfolding total flat All one_or_two room
-    leaves_two xs ys m' p = two_pages 0 _ _ (entry_of_leaf K a xs) (entry_of_leaf K b ys) m' p.ran
+    unfolding total flat All one_or_two
+    leaves_two xs ys m' p = shared_of 0 _ _ (entry_of_leaf K a xs ∷ (entry_of_leaf K b ys ∷ [])) m' p.ran
         (repage_leaves K g m'.block (λ c. 0) (λ c. 0) both (entry_of_leaf K a xs ∷ (entry_of_leaf K b ys ∷ []))
         (record { fits = leaf_fits; writes = step_as _ _ _ _ g m'.block (λ c. omega arith) (λ c. omega arith) p.ran.step })
         (rw (append-nil (K.items (m'.block b)), append-nil (K.items (g b)), p.first, p.second) p.same))
         (one_leaf K m'.block a xs p.there p.first p.full.0 p.few.0, (one_leaf K m'.block b ys p.there' p.second p.full.1 p.few.1, tt))
-        (omega (arith, p.over, leaf_sum (xs ++ ys) p.same, length-append xs ys))
+        (omega arith) (omega arith)
 
   -- nodes
   module _ (lw : Lawful K) (h : ℕ) (n : Neighbours K (suc h) a b m) where
     abbrev kids : List Child
     kids = K.children (g a) ++ K.children (g b)
 
-    node_sum : (xs : List Child) → xs ≡ kids → length xs ≡ many K (suc h) (g a) + many K (suc h) (g b)
-    unfolding many
-    node_sum xs e = ap length e ∙ length-append (K.children (g a)) (K.children (g b))
+    node_sum : (xs : List Child) → xs ≡ kids → half K.node_cap ≤ length xs
+    unfolding low many
+    node_sum xs e = omega (arith, n.enough, ap length e, length-append (K.children (g a)) (K.children (g b)))
 
     node_fits : (c : ℕ) → uses_of K (suc h) g both c + 0 ≤ held g c
     unfolding total
@@ -124,24 +102,23 @@ module _ {E : Type 0} (K : Layout E) (k a b : ℕ) (m : Memory) where
         (λ c. omega (arith, node_fits c, uses_under K h g both c, ap (total (λ d. uses K h g d c)) under_both)))).still_children kids_ok
 
     pub nodes_one : (xs : List Child) (m' : Memory) → InOne K.children k K.node_cap a b m xs m' → Shared K k (suc h) a b m (one_or_two (entry_of K a xs) None) m'
-    unfolding total flat one_or_two many
-    nodes_one xs m' p = one_page (suc h) _ _ (entry_of K a xs) m' p.ran
+    unfolding total flat All one_or_two
+    nodes_one xs m' p = shared_of (suc h) _ _ (entry_of K a xs ∷ []) m' p.ran
         (repage_nodes K h g m'.block (λ c. 0) (λ c. 0) both (entry_of K a xs ∷ [])
         (record { fits = node_fits; writes = step_as _ _ _ _ g m'.block (λ c. omega arith) (λ c. omega arith) p.ran.step })
         (append-nil (K.children (m'.block a)) ∙ p.reads ∙ p.same ∙ sym under_both))
-        (subst (λ (ks : List Child). Loose K (suc h) m'.block (entry_of K a ks)) p.reads (loose_node K lw h m'.block a p.there (rw p.reads p.few) (rw p.reads (omega (arith, node_sum xs p.same, n.filled)))
-        (subst (ChildrenOk K h m'.block) (sym (p.reads ∙ p.same)) (still_ok _ m' p.ran.step)))) (ap length p.reads ∙ node_sum xs p.same)
+        (one_node K lw h m'.block a xs p.there p.reads (node_sum xs p.same) p.few (subst (ChildrenOk K h m'.block) (sym p.same) (still_ok _ m' p.ran.step)), tt) (omega arith) (omega arith)
 
     pub nodes_two : (xs ys : List Child) (m' : Memory) → InTwo K.children k K.node_cap a b m xs ys m' → Shared K k (suc h) a b m (one_or_two (entry_of K a xs) (Some (entry_of K b ys))) m'
-    unfolding total flat All one_or_two room
-    nodes_two xs ys m' p = two_pages (suc h) _ _ (entry_of K a xs) (entry_of K b ys) m' p.ran
+    unfolding total flat All one_or_two
+    nodes_two xs ys m' p = shared_of (suc h) _ _ (entry_of K a xs ∷ (entry_of K b ys ∷ [])) m' p.ran
         (repage_nodes K h g m'.block (λ c. 0) (λ c. 0) both (entry_of K a xs ∷ (entry_of K b ys ∷ []))
         (record { fits = node_fits; writes = step_as _ _ _ _ g m'.block (λ c. omega arith) (λ c. omega arith) p.ran.step })
         (rw (append-nil (K.children (m'.block b)), p.first, p.second) (p.same ∙ sym under_both))) (
           one_node K lw h m'.block a xs p.there p.first p.full.0 p.few.0 (All-left (ChildOk K h m'.block) xs ys ok),
           (one_node K lw h m'.block b ys p.there' p.second p.full.1 p.few.1 (All-right (ChildOk K h m'.block) xs ys ok), tt),
         )
-        (omega (arith, p.over, node_sum (xs ++ ys) p.same, length-append xs ys))
+        (omega arith) (omega arith)
       where
         ok : ChildrenOk K h m'.block (xs ++ ys)
         ok = subst (ChildrenOk K h m'.block) (sym p.same) (still_ok _ m' p.ran.step)

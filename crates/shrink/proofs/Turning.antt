@@ -1,5 +1,5 @@
 -- A turn of the climb: the entry of the child that changed is put into the node, or two neighbours are put right.
-use Rattle.std.proofs.Common.{◌≡◌, ℕ, zero, suc, ◌+◌, ◌<◌, ◌≤◌, ◌⊎◌, List, [], ◌∷◌, ◌++◌, length, get_or, take, drop, Some, Option, sym, refl, ap, ◌∙◌, subst, inl, inr, append_assoc, append-nil, arith, length-append, drop-cons, take-suc}
+use Rattle.std.proofs.Common.{◌≡◌, ℕ, suc, ◌+◌, ◌<◌, ◌≤◌, ◌⊎◌, List, [], ◌∷◌, ◌++◌, length, get_or, take, drop, Some, Option, sym, refl, ap, ◌∙◌, subst, inl, inr, append_assoc, append-nil, arith, length-append, drop-cons, take-suc}
 use Rattle.page.specs.declared.child.Child.{Child}
 use Rattle.page.specs.Layout.{Layout, Lawful}
 use Rattle.store.specs.Memory.{Memory, asked}
@@ -10,20 +10,13 @@ use Rattle.store.proofs.Running.{ran_as, ran_part, ran_then, ran_asked}
 use Rattle.tree.specs.Pages.{page_asks, Reading}
 use Rattle.tree.specs.Tree.{total, flat, All, contents, uses, many, low, Sound, contents_of, uses_of, ChildOk, ChildrenOk}
 use Rattle.tree.specs.Paths.{Branch, none, left, right, before, behind}
-use Rattle.tree.specs.Growing.{Loose}
-use Rattle.tree.proofs.Each.{flat_append, total_append, All-map₂, All-++, All-left, All-right}
+use Rattle.tree.proofs.Each.{flat_append, total_append, All-++, All-left, All-right}
 use Rattle.tree.proofs.Frames.{KeptAll, frame_all}
-use Rattle.tree.proofs.Grows.{loose_child}
 use Rattle.tree.proofs.Paths.{around_child, child}
 use Rattle.shrink.specs.Asks.{share_asks}
 use Rattle.shrink.specs.Sharing.{Neighbours, Shared}
 use Rattle.shrink.specs.Shrinking.{Start, Climbing, Ready}
 use Rattle.shrink.proofs.Opening as opening
-
-some_low : {E : Type 0} (K : Layout E) → Lawful K → (h : ℕ) → 1 ≤ low K h
-unfolding low
-some_low K lw zero = omega (arith, lw.leaf_room)
-some_low K lw (suc h) = omega (arith, lw.node_room)
 
 module _ {E : Type 0} (K : Layout E) (lw : Lawful K) (z : Start E) (h : ℕ) (w : Branch) (ws : List Branch) (m : Memory) where
   abbrev f : Mem
@@ -207,7 +200,7 @@ module _ {E : Type 0} (K : Layout E) (lw : Lawful K) (z : Start E) (h : ℕ) (w 
       neighbours m₁ r = subst (Neighbours K h (at i).block (at (suc i)).block) (sym r.is) (record {
         first = q.first;
         second = q.second;
-        filled = omega (arith, q.enough, some_low K lw h);
+        enough = q.enough;
         apart = λ c. omega (arith, sum_pair c, opening.fits_now K lw z h w ws m o v c);
         counted = omega (
           arith,
@@ -228,4 +221,4 @@ module _ {E : Type 0} (K : Layout E) (lw : Lawful K) (z : Start E) (h : ℕ) (w 
           (ran_as (r.times + share_asks) _ _ m m₂ (ran_then r.times share_asks _ _ _ m (asked r.times m) m₂ (ran_asked r.times _ m) s.ran) _ _
           (λ c. rw q.pair (omega arith)) (λ c. refl))
           (s.same ∙ rw (q.pair, append-nil (contents K h g (at (suc i)).block)) refl)
-          (All-map₂ (Loose K h m₂.block) (λ j. low K h ≤ many K h (m₂.block j.block)) (ChildOk K h m₂.block) (loose_child K h m₂.block) ns s.loose (s.full (low K h) (omega arith) q.enough)) s.some (omega (arith, s.few, q.one_more)) (omega (arith, s.some, q.one_more)) (omega (arith, r.few))
+          s.children s.some (omega (arith, s.few, q.one_more)) (omega (arith, s.some, q.one_more)) (omega (arith, r.few))

@@ -1,8 +1,6 @@
 // An item leaves a tree. That needs no block and can't fail, and each block that goes is given back at once.
-ghost use Rattle.std.specs.Prelude.{◌≡◌, ◌-◌, ◌<◌, ◌≤◌, true, length, slice_index_or};
+ghost use Rattle.std.specs.Prelude.{◌≡◌, ◌-◌, ◌<◌, ◌≤◌, length, slice_index_or};
 ghost use Rattle.std.specs.List.{remove};
-ghost use Rattle.page.specs.Layout.{half};
-ghost use Rattle.page.specs.Sizes.{page_limit};
 ghost use Rattle.page.specs.View.{entries};
 ghost use Rattle.tree.specs.Trees.{holds, Lies};
 ghost use Rattle.shrink.specs.Asks.{delete_asks};
@@ -13,7 +11,6 @@ use crate::put::put_leaf;
 use crate::trim::trim;
 use page::kind::Kind;
 use page::page::Page;
-use patch::place::remove_here;
 use seek::descend::descend;
 use seek::nodes::load_leaf;
 use store::Store;
@@ -29,14 +26,6 @@ fn take_out<K: Kind>(page: &mut Page<K::Leaf>, at: u64) -> K::Item
     page.remove(at as usize)
 }
 
-// Whether a leaf with so many items, of at most so many, is full enough without one of them.
-fn has_spare(items: u64, most: usize) -> bool
-    requires { most ≤ page_limit }
-    ensures { result ≡ true → half most < items }
-{
-    items > (most as u64 + 1) / 2
-}
-
 // The tree without the item at `at`, and that item.
 pub fn delete<K: Kind, W: Store<M>, M>(m: &mut M, t: Tree, at: u64) -> (Tree, K::Item)
     requires lies { Lies K.Kind.layout (memory m.old) t }
@@ -45,9 +34,6 @@ pub fn delete<K: Kind, W: Store<M>, M>(m: &mut M, t: Tree, at: u64) -> (Tree, K:
     ensures { Deleted K.Kind.layout at t (memory m.old) result.0 result.1 (memory m.new) }
 {
     let reached = descend::<K, W, M>(m, t, at, false);
-    if has_spare(reached.items, K::leaf_cap()) {
-        return (t, remove_here::<K, W, M>(m, reached));
-    }
     let mut page = load_leaf::<K, W, M>(m, reached.leaf);
     let item = take_out::<K>(&mut page, reached.at);
     let risen = put_leaf::<K, W, M>(m, reached.leaf, &page);

@@ -30,6 +30,9 @@ vacant_low n s h = grind (arith, nat_tests)
 pub found_slot : (n : ℕ) (s : Things) {x : Slot} → Ok x ≡ found n s → slot_of s n ≡ x
 found_slot n s h = grind (arith, nat_tests)
 
+pub found_some : (n : ℕ) (s : Things) {x : Slot} → Ok x ≡ found n s → x ≡ slot.Nothing → ⊥
+found_some n s h e = grind (arith, nat_tests)
+
 pub row_slot : (n : ℕ) (s : Things) {t : Tree} → Ok t ≡ row_at n s → slot_of s n ≡ slot.Row t
 row_slot n s h = grind (arith, nat_tests)
 

@@ -21,13 +21,13 @@ use Rattle.things.specs.Bridge.{memory_of}
 use Rattle.things.specs.Names.{found, row_at, table_at, vacant}
 use Rattle.things.specs.Reasons.{refusal}
 use Rattle.things.specs.Things.{Nothing, ARow, Out, out, put, refuses, may_fill}
-use Rattle.things.specs.Promise.{can, rising}
+use Rattle.things.specs.Promise.{can}
 use Rattle.things.specs.State.{Sound, Ready, Served, two, thing, words_in, pairs_in, shelf_of, slot_of, slot_uses, SlotStands}
 use Rattle.things.proofs.Grounds.{Untouched, read_untouched}
 use Rattle.things.proofs.Accounts.{Settled, one_name, unchanged_blocks}
 use Rattle.things.proofs.Shelves.{slot_lies, slot_table_lies}
 use Rattle.things.proofs.Rules.{served_settled, served_full, unchanged}
-use Rattle.things.proofs.Naming.{row_low, table_low, vacant_low, row_slot, table_slot, vacant_slot, row_refused, table_refused, free_refused, length_refused, at_refused, set_refused, insert_refused, delete_refused, row_is, table_is, length_of_row, length_of_table, at_is, at_past, set_is, set_past, insert_is, insert_past, delete_is, delete_past}
+use Rattle.things.proofs.Naming.{found_low, row_low, table_low, vacant_low, found_slot, row_slot, table_slot, vacant_slot, row_refused, table_refused, free_refused, length_refused, at_refused, set_refused, insert_refused, delete_refused, row_is, table_is, free_is, length_of_row, length_of_table, at_is, at_past, set_is, set_past, insert_is, insert_past, delete_is, delete_past}
 
 -- a row or table without a word
 abbrev pub empty_tree : Tree
@@ -79,8 +79,14 @@ module _ (n : ℕ) (s s' : Things) (g : Ground) {u : Unit {0}} (h : Sound s g.bl
   row_served built e = served_settled (Row n) built (row_is n s g.block v) (laid_empty (slot.Row empty_tree) e (λ c. refl) tt)
 
   pub table_served : T (can (Table n)) → s'.slots ≡ set s.slots n (slot.Table empty_tree) → Served (Table n) s g Done s' g
-  unfolding pairs_in tall_contents tall_uses Tall rising
-  table_served built e = served_settled (Table n) built (table_is n s g.block v) (laid_empty (slot.Table empty_tree) e (λ c. refl) (tt, tt))
+  unfolding pairs_in tall_contents tall_uses Tall
+  table_served built e = served_settled (Table n) built (table_is n s g.block v) (laid_empty (slot.Table empty_tree) e (λ c. refl) tt)
+
+-- nothing is under n any more
+pub free_served : (n k : ℕ) (s s' : Things) (g g' : Ground) (x : Slot) → T (can (Free n)) → Sound s g.block g.many → Ok x ≡ found n s
+    → s'.slots ≡ set s.slots n slot.Nothing → Ran k (slot_uses g.block x) (λ c. 0) (memory_of g) (memory_of g') → Served (Free n) s g Done s' g'
+free_served n k s s' g g' x built h f e r =
+    served_settled (Free n) built (free_is n s g.block f) (renewed s s' g g' n k x slot.Nothing h (found_low n s f) (found_slot n s f) e r tt)
 
 -- how long a row or table is
 module _ (n : ℕ) (s : Things) (g g' : Ground) (t : Tree) (y : ℕ) (built : T (can (Length n))) (h : Sound s g.block g.many) (u : Untouched g g') where

@@ -1,6 +1,5 @@
 -- What is under one name: it depends on its blocks, and has no more of them than it may.
-use Rattle.std.proofs.Common.{◌≡◌, ℕ, zero, suc, ◌+◌, ◌/◌, ◌<◌, ◌≤◌, T, List, [], ◌∷◌, map, length, get_or, set, refl, ap, ◌∙◌, arith, length-set, get_or-set_other, get_or-set_same}
-use mathlib.Core.Path.{subst⁻¹}
+use Rattle.std.proofs.Common.{◌≡◌, ℕ, zero, suc, ◌+◌, ◌/◌, ◌<◌, ◌≤◌, List, [], ◌∷◌, map, length, get_or, set, refl, ap, ◌∙◌, arith, length-set, get_or-set_other, get_or-set_same}
 use lib.ListN.{length-map}
 use Rattle.page.specs.Layout.{Layout}
 use Rattle.page.specs.Kinds.{row_layout, table_layout}
@@ -17,7 +16,6 @@ use Rattle.things.specs.declared.state.Slot.{Slot}
 use Rattle.things.specs.declared.state.Slot.TheVariants as slot
 use Rattle.things.specs.declared.state.Things.{Things}
 use Rattle.things.specs.Things.{Nothing, ARow, ATable, weight}
-use Rattle.things.specs.Promise.{rising}
 use Rattle.things.specs.State.{Words, words_in, pairs_in, two, thing, slot_of, slot_uses, slot_blocks, SlotStands}
 
 pub record SlotKept (f f' : Words) (x : Slot) : Type 0 where
@@ -33,11 +31,7 @@ slot_frame f f' (slot.Row t) s =
     record { same_thing = ap ARow k.same_contents; same_uses = k.same_uses; still_stands = k.still_tall }
 slot_frame f f' (slot.Table t) s =
     let k = tall_frame table_layout t.height f f' t.root s in
-    record {
-      same_thing = ap (λ ps. ATable (map two ps)) k.same_contents;
-      same_uses = k.same_uses;
-      still_stands = λ w. (k.still_tall w.0, subst⁻¹ (λ ps. T (rising (map two ps))) k.same_contents w.1);
-    }
+    record { same_thing = ap (λ ps. ATable (map two ps)) k.same_contents; same_uses = k.same_uses; still_stands = k.still_tall }
 
 -- the uses of a tree are as many as its blocks
 pub blocks_when_tall : {E : Type 0} (K : Layout E) (h : ℕ) (f : Mem) (b : ℕ) → Tall K (suc h) f b → sum_to 1048576 (tall_uses K (suc h) f b) ≡ blocks K h f b
@@ -56,7 +50,7 @@ slot_weighs f slot.Nothing w = omega (arith, sum_to_none 1048576)
 slot_weighs f (slot.Row t) w = tall_weighs row_layout 24 (bound_62_31 row_layout refl refl) t.height f t.root w
 slot_weighs f (slot.Table t) w =
     rw (length-map (holds table_layout f t) two)
-    (tall_weighs table_layout 12 (bound_31_20 table_layout refl refl) t.height f t.root w.0)
+    (tall_weighs table_layout 12 (bound_31_20 table_layout refl refl) t.height f t.root w)
 
 -- a slot is laid: it is under its name, and all else is as it was
 module _ (s s' : Things) (n : ℕ) (x : Slot) (e : s'.slots ≡ set s.slots n x) where

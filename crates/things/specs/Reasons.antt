@@ -14,6 +14,7 @@ refusal reason.OtherKind = No 4
 refusal reason.NoPlace = No 5
 refusal reason.NotBelow = No 6
 refusal reason.NoKey = No 7
+refusal reason.NotBuilt = No 9
 refusal reason.NoRoom = Full
 
 abbrev pub told_done : Result (Unit {0}) Reason → Answer

@@ -70,14 +70,4 @@ impl Things {
     {
         self.slots[n as usize] = x;
     }
-
-    // x is under n, and y under m.
-    pub(crate) fn lay_both(&mut self, n: u32, x: Slot, m: u32, y: Slot)
-        requires first { n < 256 }
-        requires second { m < 256 }
-        ensures { self.new.slots ≡ slice_set (slice_set self.old.slots n x) m y }
-    {
-        self.lay(n, x);
-        self.lay(m, y);
-    }
 }

@@ -13,6 +13,7 @@ pub enum Reason {
     NoPlace,
     NotBelow,
     NoKey,
+    NotBuilt,
     NoRoom,
 }
 
@@ -29,6 +30,7 @@ impl Reason {
             Reason::NoPlace => Answer::No(5),
             Reason::NotBelow => Answer::No(6),
             Reason::NoKey => Answer::No(7),
+            Reason::NotBuilt => Answer::No(9),
             Reason::NoRoom => Answer::Full,
         }
     }

@@ -25,11 +25,8 @@ module _ {E : Type 0} (K : Layout E) where
   pub blocks_low : (h : ℕ) (f : Mem) (b : ℕ) → Sound K h f b → ((c : ℕ) → uses K h f b c ≤ held f c) → blocks K h f b ≤ 1048576
   blocks_low h f b s o = omega (arith, blocks_used K h f b s, sum_to_le 1048576 (uses K h f b) (held f) (λ c l. o c), held_most f)
 
-  pub few_items : K.leaf_cap ≤ 62 → (h : ℕ) (f : Mem) (b : ℕ) → Sound K h f b → ((c : ℕ) → uses K h f b c ≤ held f c) → length (contents K h f b) ≤ 62 * 1048576
-  few_items l h f b s o = omega (arith, most K h f b s, mul-le-mul {n₁ = K.leaf_cap} {m₁ = blocks K h f b} {n₂ = 62} {m₂ = 1048576} l (blocks_low h f b s o))
-
   pub length_low : (h : ℕ) (f : Mem) (b : ℕ) → K.leaf_cap ≤ 62 → Sound K h f b → ((c : ℕ) → uses K h f b c ≤ held f c) → length (contents K h f b) < 2 ^ 64
-  length_low h f b l s o = omega (arith, few_items l h f b s o)
+  length_low h f b l s o = omega (arith, most K h f b s, mul-le-mul {n₁ = K.leaf_cap} {m₁ = blocks K h f b} {n₂ = 62} {m₂ = 1048576} l (blocks_low h f b s o))
 
   module _ (wide : 20 ≤ K.node_cap) where
     pub level_low : (h : ℕ) (f : Mem) (b : ℕ) → Root K h f b → ((c : ℕ) → uses K h f b c ≤ held f c) → h ≤ 6

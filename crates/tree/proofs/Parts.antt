@@ -3,21 +3,19 @@ use Rattle.std.proofs.Common.{◌≡◌, ℕ, suc, ◌+◌, ◌≤◌, List, ◌
 use Rattle.page.specs.Layout.{Layout}
 use Rattle.store.specs.Steps.{Mem, hit, held, Same, Step}
 use Rattle.store.proofs.Stepping.{step_beside, step_as, part_then, part_same}
-use Rattle.tree.specs.declared.top.Tree.{Tree}
 use Rattle.tree.specs.Tree.{uses, uses_of}
-use Rattle.tree.specs.Trees.{owns}
 use Rattle.tree.specs.Paths.{Branch, left, right, Path, before, behind}
 use Rattle.tree.specs.Tall.{TallKept}
-use Rattle.tree.specs.Parting.{Joined, Parting, Grouped}
+use Rattle.tree.specs.Parting.{Top, owns, Joined, Parting, Grouped}
 use Rattle.tree.proofs.Paths.{node_uses, seen}
 use Rattle.tree.proofs.Tall.{tall_frame}
 
 module _ {E : Type 0} (K : Layout E) where
   -- what a tree is after a step that leaves it alone
-  pub keeps : (f g : Mem) (t : Tree) (w : ℕ → ℕ) → Same w f g → ((c : ℕ) → owns K f t c ≤ w c) → TallKept K t.height f g t.root
-  keeps f g t w s a = tall_frame K t.height f g t.root (λ c n. s c (λ z. n (omega (arith, a c))))
+  pub keeps : (f g : Mem) (t : Top) (w : ℕ → ℕ) → Same w f g → ((c : ℕ) → owns K f t c ≤ w c) → TallKept K t.height f g t.block
+  keeps f g t w s a = tall_frame K t.height f g t.block (λ c n. s c (λ z. n (omega (arith, a c))))
 
-  module _ (f : Mem) (s : ℕ → ℕ) (H top : ℕ) (xs ys : List E) (h b : ℕ) (w : Branch) (ws : List Branch) (g g₁ g₂ g₃ : Mem) (t t₁ t₂ t₃ : ℕ → ℕ) (l r a c l' r' : Tree)
+  module _ (f : Mem) (s : ℕ → ℕ) (H top : ℕ) (xs ys : List E) (h b : ℕ) (w : Branch) (ws : List Branch) (g g₁ g₂ g₃ : Mem) (t t₁ t₂ t₃ : ℕ → ℕ) (l r a c l' r' : Top)
       (v : Parting K f s H top xs ys h b (w ∷ ws) g t l r) (gr : Grouped K h w f g g₁ t t₁ a c) where
     U : ℕ → ℕ
     U d = uses K (suc h) f w.block d + s d
@@ -51,18 +49,13 @@ module _ {E : Type 0} (K : Layout E) where
     unfolding V rest₁
     same₁ = part_same U _ _ _ rest₁ f g g₁ S0 fits (λ d. omega arith) gr.all
 
-    pub l₁ : TallKept K l.height g g₁ l.root
+    pub l₁ : TallKept K l.height g g₁ l.block
     unfolding rest₁
     l₁ = keeps g g₁ l rest₁ same₁ (λ d. omega arith)
 
-    pub r₁ : TallKept K r.height g g₁ r.root
+    pub r₁ : TallKept K r.height g g₁ r.block
     unfolding rest₁
     r₁ = keeps g g₁ r rest₁ same₁ (λ d. omega arith)
-
-    -- all of it fits
-    pub fits₁ : (d : ℕ) → (owns K g₁ a d + (owns K g₁ c d + t₁ d)) + (owns K g₁ l d + owns K g₁ r d) ≤ held g₁ d
-    unfolding rest₁
-    fits₁ d = omega (arith, fits d, S1.balanced d, l₁.same_uses d, r₁.same_uses d)
 
     module _ (j : Joined K g₁ g₂ t₁ t₂ a l l') where
       rest₂ : ℕ → ℕ
@@ -76,17 +69,13 @@ module _ {E : Type 0} (K : Layout E) where
       unfolding rest₁ rest₂
       same₂ = part_same U _ _ _ rest₂ f g₁ g₂ S1 fits (λ d. omega (arith, l₁.same_uses d, r₁.same_uses d)) j.all
 
-      pub r₂ : TallKept K r.height g₁ g₂ r.root
+      pub r₂ : TallKept K r.height g₁ g₂ r.block
       unfolding rest₂
       r₂ = keeps g₁ g₂ r rest₂ same₂ (λ d. omega arith)
 
-      pub c₂ : TallKept K c.height g₁ g₂ c.root
+      pub c₂ : TallKept K c.height g₁ g₂ c.block
       unfolding rest₂
       c₂ = keeps g₁ g₂ c rest₂ same₂ (λ d. omega arith)
-
-      pub fits₂ : (d : ℕ) → (owns K g₂ l' d + t₂ d) + (owns K g₂ c d + owns K g₂ r d) ≤ held g₂ d
-      unfolding rest₂
-      fits₂ d = omega (arith, fits d, S2.balanced d, c₂.same_uses d, r₂.same_uses d)
 
       module _ (k : Joined K g₂ g₃ t₂ t₃ r c r') where
         rest₃ : ℕ → ℕ
@@ -100,7 +89,7 @@ module _ {E : Type 0} (K : Layout E) where
         unfolding rest₂ rest₃
         same₃ = part_same U _ _ _ rest₃ f g₂ g₃ S2 fits (λ d. omega (arith, r₂.same_uses d, c₂.same_uses d)) k.all
 
-        l₃ : TallKept K l'.height g₂ g₃ l'.root
+        l₃ : TallKept K l'.height g₂ g₃ l'.block
         unfolding rest₃
         l₃ = keeps g₂ g₃ l' rest₃ same₃ (λ d. omega arith)
 

@@ -8,6 +8,7 @@ pub mod Grown
 pub mod Tall
 pub mod Sides
 pub mod Roots
+pub mod Parting
 pub mod Down
 pub mod Writing
 pub mod Climb
@@ -16,4 +17,3 @@ pub mod Keys
 pub mod Laws
 pub mod Pages
 pub mod Trees
-pub mod Parting

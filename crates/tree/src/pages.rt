@@ -11,14 +11,6 @@ use page::page::Page;
 use store::Store;
 use store::words::{load, store};
 
-// How many words of a block a page of n entries uses: two of its own, and those of the entries.
-fn used_words<C: Codec>(n: u32) -> u32
-    requires { n * C.Codec.width ≤ 62 }
-    ensures { result ≡ 2 + n * C.Codec.width }
-{
-    2 + n * C::width() as u32
-}
-
 // The page at block b: only the words that it uses are read.
 pub fn load_page<C: Codec, W: Store<M>, M>(m: &mut M, b: u32) -> Page<C>
     requires asks { page_asks ≤ (memory m.old).left }
@@ -29,22 +21,11 @@ pub fn load_page<C: Codec, W: Store<M>, M>(m: &mut M, b: u32) -> Page<C>
     ensures same { Reading page_asks (memory m.old) (memory m.new) }
 {
     let n = W::get(m, b, 0) as u32;
-    let image = load::<W, M>(m, b, used_words::<C>(n));
+    let image = load::<W, M>(m, b, 2 + n * C::width() as u32);
     Page::unpack(&image)
 }
 
-// The image of a page of n entries goes to block b: only the words that it uses are written.
-fn store_image<C: Codec, W: Store<M>, M>(m: &mut M, b: u32, n: u32, image: &[u64; 64])
-    requires asks { page_asks ≤ (memory m.old).left }
-    requires there { Stored (memory m.old).block b }
-    requires fits { n * C.Codec.width ≤ 62 }
-    requires len { slice_index image.now 0 ≡ n }
-    ensures { Writing page_asks (imaged C.Codec.width C.Codec.decode) b (imaged C.Codec.width C.Codec.decode image.now) (memory m.old) (memory m.new) }
-{
-    store::<W, M>(m, b, used_words::<C>(n), image);
-}
-
-// The page goes to block b.
+// The page goes to block b: only the words that it uses are written.
 pub fn store_page<C: Codec, W: Store<M>, M>(m: &mut M, b: u32, page: &Page<C>)
     requires asks { page_asks ≤ (memory m.old).left }
     requires there { Stored (memory m.old).block b }
@@ -53,5 +34,5 @@ pub fn store_page<C: Codec, W: Store<M>, M>(m: &mut M, b: u32, page: &Page<C>)
 {
     let mut image = [0; 64];
     page.pack(&mut image);
-    store_image::<C, W, M>(m, b, page.len() as u32, &image);
+    store::<W, M>(m, b, 2 + page.len() as u32 * C::width() as u32, &image);
 }

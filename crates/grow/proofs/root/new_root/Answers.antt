@@ -1,6 +1,6 @@
 use Rattle.std.proofs.Common.{refl, arith}
 use Rattle.grow.proofs.Climbing.{spent_ran}
-use Rattle.grow.proofs.Crowning.{length_two, low_block, valid_two, spare, crown_one, crown_two}
+use Rattle.grow.proofs.Crowning.{low_block, valid_two, spare, crown_one, crown_two}
 use Rattle.grow.proofs.root.new_root.Goals as goal
 
 pub overflow-cast-result : goal.overflow-cast-result
@@ -20,16 +20,10 @@ pub returns-in-None : goal.returns-in-None
 returns-in-None g c = record {
   crowns = λ z e w v. crown_one _ z _ _ _ _ v _ e g.met.K.Kind.lawful w c.in-None.is;
   spent = record { number = refl; asks = omega arith; top = refl; failed = refl };
-  higher = (omega arith, omega arith);
-  stays = λ e. refl;
-  taken = omega arith;
 }
 
 pub returns-in-Some : goal.returns-in-Some
 returns-in-Some g c = record {
   crowns = λ z e w v. crown_two _ z _ _ _ _ v _ e g.met.K.Kind.lawful _ _ c.in-Some.is _ _ _ c.node-above.ensures;
   spent = spent_ran _ _ _ _ _ c.node-above.ensures.ran;
-  higher = (omega arith, omega arith);
-  stays = λ e. absurd (omega (arith, e, length_two c.args.one _ _ c.in-Some.is));
-  taken = omega (arith, c.node-above.ensures.fewer);
 }

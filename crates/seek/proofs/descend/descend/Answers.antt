@@ -1,4 +1,4 @@
-use Rattle.std.proofs.Common.{◌≡◌, ℕ, sym, refl, ap, ◌∙◌, ap₂, arith}
+use Rattle.std.proofs.Common.{◌≡◌, ℕ, sym, refl, ◌∙◌, ap₂, arith}
 use Rattle.std.proofs.lemmas.List.{get_or_default}
 use Rattle.tree.specs.Paths.{none}
 use Rattle.seek.specs.Descent.{run_after}
@@ -53,5 +53,5 @@ returns g c =
     let ws = (g.W.Store.memory c.loop-level.m).block c.loop-level.b in
     let n = first_word g.Leaf.Codec.width g.Leaf.Codec.decode g.K.Kind.layout.items g.met.K.Kind.leaves ws in
     let low : c.loop-level.level ≡ 0 = omega arith in
-    going_end _ _ _ c.args.t _ _ _ _ _ _ _ c.loop-level.invariant c.requires.tall low c.number-of-entries-items.result (c.number-of-entries-items.ensures.0 ∙ sym n) c.run-on.result
-    (c.run-on.ensures ∙ ap (λ (x : ℕ). run_after c.loop-level.full c.number-of-entries-items.result x) c.leaf-cap.ensures) _ c.number-of-entries-items.ensures.1
+    going_end _ _ _ c.args.t _ _ _ _ _ _ _ c.loop-level.invariant c.requires.tall low c.run-on.result
+    (c.run-on.ensures ∙ ap₂ (λ (x y : ℕ). run_after c.loop-level.full x y) (c.number-of-entries-items.ensures.0 ∙ sym n) c.leaf-cap.ensures) _ c.number-of-entries-items.ensures.1

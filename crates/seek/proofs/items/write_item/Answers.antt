@@ -1,20 +1,23 @@
-use Rattle.std.proofs.Common.{ℕ, ◌+◌, ◌*◌, ◌≤◌, ap, ◌∙◌, mul-le-mul_right, arith}
+use Rattle.std.proofs.Common.{ℕ, ◌+◌, ◌*◌, ◌≤◌, take, ap, ◌∙◌, mul-le-mul_right, arith}
 use lib.Seq.{paste}
 use Rattle.page.proofs.Images.{few_entries}
 use Rattle.store.specs.Memory.{wrote}
 use Rattle.seek.proofs.Imaged.{entry_inside}
-use Rattle.seek.proofs.EntryWords.{writing_entry}
+use Rattle.seek.proofs.EntryWords.{writing_entry, take_pasted}
 use Rattle.seek.proofs.items.write_item.Given as given
 use Rattle.seek.proofs.items.write_item.Goals as goal
 
 room : (g : given.Over) → g.K.Kind.layout.leaf_cap ≤ 62
 room g = few_entries g.K.Kind.layout.leaf_cap g.Leaf.Codec.width 62 g.met.Leaf.Codec.some g.met.K.Kind.leafFits
 
+pub write-requires : goal.write-requires
+write-requires g c = omega (arith, g.met.Leaf.Codec.small)
+
 pub entry-number-requires : goal.entry-number-requires
 entry-number-requires g c = omega (arith, c.requires.inside, c.requires.few, room g)
 
-pub write-entry-requires : goal.write-entry-requires
-write-entry-requires g c = record {
+pub store-entry-requires : goal.store-entry-requires
+store-entry-requires g c = record {
   asks = omega (arith, c.requires.asks, g.met.Leaf.Codec.small);
   there = c.requires.there;
   inside = entry_inside g.Leaf.Codec.width g.K.Kind.layout.leaf_cap c.entry-number.result g.met.K.Kind.leafFits (omega (arith, c.entry-number.ensures, c.requires.inside, c.requires.few));
@@ -27,6 +30,7 @@ returns g c =
     let m = g.W.Store.memory c.args.m.now in
     let s = g.met.Leaf.Codec.sized x in
     let fits = mul-le-mul_right w c.requires.few in
-    writing_entry w g.Leaf.Codec.decode g.K.Kind.layout.items g.met.K.Kind.leaves c.args.at x (g.Leaf.Codec.encode x) s (g.met.Leaf.Codec.back x (g.met.K.Kind.itemsValid x)) c.args.leaf _ _ _
+    writing_entry w g.Leaf.Codec.decode g.K.Kind.layout.items g.met.K.Kind.leaves c.args.at x (g.Leaf.Codec.encode x) s (g.met.Leaf.Codec.back x (g.met.K.Kind.itemsValid x)) c.args.leaf _ c.write.new.words _ _
     c.requires.there c.requires.inside (omega (arith, fits, g.met.K.Kind.leafFits)) g.met.Leaf.Codec.small
-    (c.write-entry.ensures ∙ ap (λ (k : ℕ). wrote w c.args.leaf (paste (m.block c.args.leaf) (2 + w * k) (g.Leaf.Codec.encode x) w) m) c.entry-number.ensures)
+    (ap (take w) c.write.ensures ∙ take_pasted w _ (g.Leaf.Codec.encode x) s)
+    (c.store-entry.ensures ∙ ap (λ (k : ℕ). wrote w c.args.leaf (paste (m.block c.args.leaf) (2 + w * k) c.write.new.words w) m) c.entry-number.ensures)

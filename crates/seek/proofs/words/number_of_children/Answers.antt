@@ -1,19 +1,16 @@
 use Rattle.std.proofs.Common.{sym, ◌∙◌, arith}
-use Rattle.tree.proofs.Words.{Nodes, nodes_read}
-use Rattle.seek.proofs.words.number_of_children.Given as given
+use Rattle.page.proofs.Images.{few_entries}
+use Rattle.seek.proofs.Imaged.{first_word}
 use Rattle.seek.proofs.words.number_of_children.Goals as goal
-
-nodes : (g : given.Over) → Nodes g.K.Kind.layout g.Node.Codec.width
-nodes g =
-    nodes_read _ _ g.Node.Codec.decode g.Node.Codec.encode g.Node.Codec.valid g.met.Node.Codec.sized g.met.Node.Codec.back
-    g.met.K.Kind.entriesValid g.met.K.Kind.blockAt g.met.K.Kind.nodes g.met.K.Kind.countAt g.met.K.Kind.nodeFits
 
 pub overflow-cast-result : goal.overflow-cast-result
 overflow-cast-result g c =
-    let n = (nodes g).many_at ((g.W.Store.memory c.args.m.now).block c.args.b) in
-    record { fits = omega (arith, c.number-of-entries.ensures.0, n, c.requires.few, (nodes g).narrow) }
+    let n = first_word g.Node.Codec.width g.Node.Codec.decode g.K.Kind.layout.children g.met.K.Kind.nodes ((g.W.Store.memory c.args.m.now).block c.args.b) in
+    let k = few_entries g.K.Kind.layout.node_cap g.Node.Codec.width 62 g.met.Node.Codec.some g.met.K.Kind.nodeFits in
+    record { fits = omega (arith, c.number-of-entries.ensures.0, n, c.requires.few, k) }
 
 pub returns : goal.returns
 returns g c =
-    let n = (nodes g).many_at ((g.W.Store.memory c.args.m.now).block c.args.b) in
-    record { value = c.number-of-entries.ensures.0 ∙ sym n; small = omega (arith, c.number-of-entries.ensures.0, n, c.requires.few, (nodes g).narrow); same = c.number-of-entries.ensures.1 }
+    let n = first_word g.Node.Codec.width g.Node.Codec.decode g.K.Kind.layout.children g.met.K.Kind.nodes ((g.W.Store.memory c.args.m.now).block c.args.b) in
+    let k = few_entries g.K.Kind.layout.node_cap g.Node.Codec.width 62 g.met.Node.Codec.some g.met.K.Kind.nodeFits in
+    record { value = c.number-of-entries.ensures.0 ∙ sym n; small = omega (arith, c.number-of-entries.ensures.0, n, c.requires.few, k); same = c.number-of-entries.ensures.1 }

@@ -2,8 +2,6 @@ use Rattle.std.proofs.Common.{false, arith}
 use Rattle.page.proofs.Images.{few_entries}
 use Rattle.seek.proofs.Landing.{leaf_stored, leaf_few, leaf_inside, asks_of_leaf}
 use Rattle.seek.proofs.Readings.{reading_left, reading_stored}
-use Rattle.patch.proofs.Since.{leads, items_are}
-use Rattle.shrink.proofs.Sparing.{spared}
 use Rattle.shrink.proofs.Deletes.{start, tall, code_begun, code_topmost, code_deleted}
 use Rattle.shrink.proofs.delete.delete.Goals as goal
 
@@ -17,27 +15,6 @@ descend-reached-requires g c =
       there = omega (arith, c.requires.place);
       asks = omega (arith, c.requires.asks);
     }
-
-pub has-spare-requires : goal.has-spare-requires
-has-spare-requires g c =
-    let narrow = few_entries g.K.Kind.layout.leaf_cap g.Leaf.Codec.width 62 g.met.Leaf.Codec.some g.met.K.Kind.leafFits in
-    omega (arith, c.leaf-cap.ensures, narrow)
-
-pub remove-here-requires : goal.remove-here-requires
-remove-here-requires g c =
-    let K = g.K.Kind.layout in
-    let d = c.descend-reached.ensures in
-    record {
-      asks = asks_of_leaf K _ _ _ _ false _ d _ (omega (arith, c.requires.asks));
-      full = omega (arith, c.has-spare.ensures c.if-has-spare.true, c.leaf-cap.ensures, items_are K _ _ _ _ false _ c.requires.lies d);
-      leads = (c.args.t, (c.args.at, leads K _ _ _ _ false _ c.requires.lies d));
-    }
-
-pub returns-then-has-spare : goal.returns-then-has-spare
-returns-then-has-spare g c =
-    let K = g.K.Kind.layout in
-    let d = c.descend-reached.ensures in
-    spared K c.args.t c.args.at _ _ _ _ d.same (c.remove-here.ensures c.args.t c.args.at (leads K _ _ _ _ false _ c.requires.lies d))
 
 pub load-leaf-page-requires : goal.load-leaf-page-requires
 load-leaf-page-requires g c =

@@ -69,4 +69,4 @@ returns g c =
     code_even (imaged w d) c.args.most c.args.a c.args.b _ _ _ _ c.requires.apart c.requires.left c.requires.right r s xs c.store-page.ensures
     (entries w d) c.even-out-merged.result c.even-out-merged.new.right c.keep-or-release-right.result _ c.requires.held c.keep-or-release-right.ensures.released c.keep-or-release-right.ensures.kept
     (λ q. (merged_all xs ys _ _ _ _ e.same c.load-page-left.ensures.after (c.load-page-right.ensures.after ∙ back) (nr ∙ (e.one q).0), omega (arith, x, nl)))
-    (λ q. (evened xs ys _ _ _ _ e.same c.load-page-left.ensures.after (c.load-page-right.ensures.after ∙ back), (omega (arith, x, nl), omega (arith, y, nr)), (omega (arith, (f q).0, nl), omega (arith, (f q).1, nr)), omega (arith, (e.two q).0, nl, nr)))
+    (λ q. (evened xs ys _ _ _ _ e.same c.load-page-left.ensures.after (c.load-page-right.ensures.after ∙ back), (omega (arith, x, nl), omega (arith, y, nr)), (omega (arith, (f q).0, nl), omega (arith, (f q).1, nr))))

@@ -4,7 +4,7 @@ use Rattle.page.specs.View.{entries}
 use Rattle.page.proofs.Pages.{length_entries}
 use Rattle.shrink.specs.Asks.{share_asks}
 use Rattle.shrink.specs.Sharing.{Shared}
-use Rattle.shrink.proofs.Pairing.{leaves_apart, leaves_filled, leaves_shared, leaves_shared_two, first_some, second_some, to_one, to_two}
+use Rattle.shrink.proofs.Pairing.{leaves_apart, leaves_enough, leaves_shared, leaves_shared_two, first_some, second_some, to_one, to_two}
 use Rattle.shrink.proofs.share.share_leaves.Goals as goal
 
 pub even-right-requires : goal.even-right-requires
@@ -19,7 +19,7 @@ leaf-entry-one-requires g c =
       arith,
       length_entries g.Leaf.Codec.width g.Leaf.Codec.decode c.even-right.result.0,
       first_some (entries g.Leaf.Codec.width g.Leaf.Codec.decode) (imaged g.Leaf.Codec.width g.Leaf.Codec.decode) g.K.Kind.layout.items g.met.K.Kind.leaves c.leaf-cap.result c.args.a c.args.b (g.W.Store.memory c.args.m.now) (g.W.Store.memory c.even-right.new.m) c.even-right.result.0 c.even-right.result.1 c.even-right.ensures
-          some (leaves_filled g.K.Kind.layout g.met.K.Kind.lawful c.args.a c.args.b (g.W.Store.memory c.args.m.now) c.requires.neighbours),
+          some (leaves_enough g.K.Kind.layout g.met.K.Kind.lawful c.args.a c.args.b (g.W.Store.memory c.args.m.now) c.leaf-cap.result c.leaf-cap.ensures c.requires.neighbours),
     )
 
 pub leaf-entry-requires : goal.leaf-entry-requires

@@ -6,7 +6,7 @@ use Rattle.page.proofs.Pages.{length_entries}
 use Rattle.shrink.specs.Asks.{share_asks}
 use Rattle.shrink.specs.Sharing.{Shared}
 use Rattle.shrink.proofs.Sharing.{counts_both}
-use Rattle.shrink.proofs.Pairing.{nodes_apart, nodes_filled, nodes_shared, nodes_shared_two, first_some, first_part, second_some, second_part, to_one, to_two}
+use Rattle.shrink.proofs.Pairing.{nodes_apart, nodes_enough, nodes_shared, nodes_shared_two, first_some, first_part, second_some, second_part, to_one, to_two}
 use Rattle.shrink.proofs.share.share_nodes.Goals as goal
 
 pub even-right-requires : goal.even-right-requires
@@ -25,7 +25,7 @@ node-entry-one-requires g c =
         arith,
         length_entries g.Node.Codec.width g.Node.Codec.decode c.even-right.result.0,
         first_some (entries g.Node.Codec.width g.Node.Codec.decode) (imaged g.Node.Codec.width g.Node.Codec.decode) K.children g.met.K.Kind.nodes c.node-cap.result c.args.a c.args.b m n c.even-right.result.0 c.even-right.result.1 c.even-right.ensures
-            some (nodes_filled K g.met.K.Kind.lawful c.args.a c.args.b m c.requires.neighbours.0 c.requires.neighbours.1),
+            some (nodes_enough K g.met.K.Kind.lawful c.args.a c.args.b m c.node-cap.result c.requires.neighbours.0 c.node-cap.ensures c.requires.neighbours.1),
       );
       few = omega (
         arith,

@@ -1,5 +1,5 @@
 use Rattle.std.proofs.Common.{arith}
-use Rattle.shrink.proofs.Replacing.{loose_valid}
+use Rattle.shrink.proofs.Replacing.{children_valid}
 use Rattle.shrink.proofs.CodeTurns.{first_small, second_small, next_at, mended_at}
 use Rattle.shrink.proofs.turn.mend.Goals as goal
 
@@ -20,7 +20,7 @@ replace-two-requires g c =
     let n = next_at g.K.Kind.layout c.args.leaves _ c.args.at _ c.get-a.result c.get-b.result c.get-a.ensures.value c.get-b.ensures.value c.requires.next.0 c.requires.next.1 in
     record {
       there = c.requires.there;
-      valid = loose_valid g.K.Kind.layout g.Node.Codec.valid g.met.K.Kind.entriesValid c.requires.next.0 _ _ (c.share-two.ensures c.requires.next.0 n).loose;
+      valid = children_valid g.K.Kind.layout g.Node.Codec.valid g.met.K.Kind.entriesValid c.requires.next.0 _ _ (c.share-two.ensures c.requires.next.0 n).children;
     }
 
 pub returns : goal.returns

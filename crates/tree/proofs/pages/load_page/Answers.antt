@@ -15,14 +15,14 @@ unpack-requires g c =
 pub returns : goal.returns
 returns g c =
     let e = c.load-image.ensures.words in
-    let u : c.used-words.result ≡ 2 + c.get-n.result * g.C.Codec.width = c.used-words.ensures in
+    let w : c.width.result ≡ g.C.Codec.width = c.width.ensures in
     let ws = (g.W.Store.memory c.args.m.now).block c.args.b in
     let t : take (2 + c.get-n.result * g.C.Codec.width) c.load-image.result ≡ take (2 + c.get-n.result * g.C.Codec.width) ws =
-    rw (← u) (e ∙ ap (λ m. take c.used-words.result (m.block c.args.b)) c.get-n.ensures.1) in
+    rw (← w) (e ∙ ap (λ m. take (2 + c.get-n.result * c.width.result) (m.block c.args.b)) c.get-n.ensures.1) in
     let s = same_image g.C.Codec.width g.C.Codec.decode c.load-image.result ws c.get-n.result c.get-n.ensures.0 t in
-    let h : c.get-n.result * g.C.Codec.width ≤ 62 = rw c.get-n.ensures.0 c.requires.fits in
+    let h : c.get-n.result * c.width.result ≤ 62 = rw (w, c.get-n.ensures.0) c.requires.fits in
     record {
       after = c.unpack.ensures.after ∙ s;
       len = c.unpack.ensures.len ∙ same_word _ c.load-image.result ws 0 (omega arith) t;
-      same = reading_two 1 c.used-words.result _ _ _ _ c.get-n.ensures.1 c.load-image.ensures.same (omega (arith, h, u));
+      same = reading_two 1 (2 + c.get-n.result * c.width.result) _ _ _ _ c.get-n.ensures.1 c.load-image.ensures.same (omega (arith, h));
     }

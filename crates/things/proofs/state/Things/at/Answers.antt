@@ -1,7 +1,6 @@
-use Rattle.std.proofs.Common.{◌-◌, arith}
+use Rattle.std.proofs.Common.{arith}
 use Rattle.std.proofs.lemmas.Result.{err_from_is_err_and}
 use Rattle.page.specs.Kinds.{row_layout}
-use Rattle.seek.specs.Asks.{length_asks}
 use Rattle.things.specs.State.{Ready}
 use Rattle.things.proofs.Grounds.{read_untouched}
 use Rattle.things.proofs.Rules.{served_after}
@@ -24,7 +23,7 @@ returns-then-i-length g c =
 
 pub at-requires : goal.at-requires
 at-requires g c =
-    let q : Ready (16384 - length_asks) 64 c.args.self.now (g.B.Blocks.ground c.length.new.m) = ready_after c.requires c.length.ensures.same in
+    let q : Ready 16319 64 c.args.self.now (g.B.Blocks.ground c.length.new.m) = ready_after c.requires c.length.ensures.same in
     record {
       lies = row_lies c.args.n c.args.self.now _ q.sound c.in-ok-t.ensures;
       there = (still_place _ _ c.length.ensures.same row_layout c.in-ok-t.t c.args.i _ c.length.ensures.value (omega arith));
@@ -33,7 +32,7 @@ at-requires g c =
 
 pub returns : goal.returns
 returns g c =
-    let q : Ready (16384 - length_asks) 64 c.args.self.now (g.B.Blocks.ground c.length.new.m) = ready_after c.requires c.length.ensures.same in
+    let q : Ready 16319 64 c.args.self.now (g.B.Blocks.ground c.length.new.m) = ready_after c.requires c.length.ensures.same in
     served_after (read_untouched c.length.ensures.same)
     (at_served c.args.n c.args.self.now _ _ c.in-ok-t.t q.sound c.in-ok-t.ensures
     (read_untouched c.at.ensures.same) c.args.i _ tt (still_place _ _ c.length.ensures.same row_layout c.in-ok-t.t c.args.i _ c.length.ensures.value (omega arith)) (c.at.ensures.value 0))

@@ -1,0 +1,54 @@
+// Which child of a node an item or a gap between items is under.
+ghost use Rattle.std.specs.Prelude.{◌≡◌, ℕ, ◌+◌, ◌<◌, ◌≤◌, take, slice_index_or};
+ghost use Rattle.page.specs.declared.child.Child.{Child};
+ghost use Rattle.page.specs.Layout.{counts};
+ghost use Rattle.page.specs.View.{entries};
+
+use crate::kind::Kind;
+use crate::page::Page;
+
+// A child, and a place among the items under it.
+#[derive(Clone, Copy)]
+pub struct Place {
+    pub child: usize,
+    pub rest: u64,
+}
+
+// Where the item at `at` is.
+pub fn find<K: Kind>(page: &Page<K::Node>, at: u64) -> Place
+    requires { at < counts (entries K.Node.Codec.width K.Node.Codec.decode page.now) }
+    ensures child { result.child < page.now.len }
+    ensures before { counts (take result.child (entries K.Node.Codec.width K.Node.Codec.decode page.now)) + result.rest ≡ at }
+    ensures within { (d : Child) → result.rest < (slice_index_or (entries K.Node.Codec.width K.Node.Codec.decode page.now) result.child d).count }
+{
+    let mut rest = at;
+    let mut i = 0;
+    while i < page.len() {
+        let count = page.get(i).count;
+        if rest < count {
+            return Place { child: i, rest };
+        }
+        rest -= count;
+        i += 1;
+    }
+    unreachable()
+}
+
+// Where an item comes that is to have `at` items before it: the first child that can take it.
+pub fn find_gap<K: Kind>(page: &Page<K::Node>, at: u64) -> Place
+    requires some { 0 < page.now.len }
+    requires there { at ≤ counts (entries K.Node.Codec.width K.Node.Codec.decode page.now) }
+    ensures child { result.child < page.now.len }
+    ensures before { counts (take result.child (entries K.Node.Codec.width K.Node.Codec.decode page.now)) + result.rest ≡ at }
+    ensures within { (d : Child) → result.rest ≤ (slice_index_or (entries K.Node.Codec.width K.Node.Codec.decode page.now) result.child d).count }
+    ensures first { 0 < result.child → 0 < result.rest }
+{
+    if at == 0 {
+        return Place { child: 0, rest: 0 };
+    }
+    let place = find::<K>(page, at - 1);
+    Place {
+        child: place.child,
+        rest: place.rest + 1,
+    }
+}

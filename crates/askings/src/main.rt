@@ -26,16 +26,16 @@ const ALLOWED: u64 = 16384;
 
 // One call, and how often it asked.
 fn asks_of<B: Blocks + Bounds>(s: &mut Things, b: &mut Ration<B>, o: Op) -> u64
-    requires { Ready s.old (ground_of B.Blocks.ground b.old) }
-    ensures { Ready s.new (ground_of B.Blocks.ground b.new) }
+    requires { Ready s.old (ground_of B.Blocks.as_ground b.old) }
+    ensures { Ready s.new (ground_of B.Blocks.as_ground b.new) }
 {
     let _a = ask(s, b, o);
     ALLOWED.saturating_sub(b.asks_left())
 }
 
 fn inserts<B: Blocks + Bounds>(s: &mut Things, b: &mut Ration<B>) -> Tally
-    requires { Ready s.old (ground_of B.Blocks.ground b.old) }
-    ensures { Ready s.new (ground_of B.Blocks.ground b.new) }
+    requires { Ready s.old (ground_of B.Blocks.as_ground b.old) }
+    ensures { Ready s.new (ground_of B.Blocks.as_ground b.new) }
 {
     let mut tally = Tally::new();
     for x in 0..LENGTH {
@@ -53,8 +53,8 @@ fn deletes<B: Blocks + Bounds>(
     count: u64,
     tally: &mut Tally,
 )
-    requires { Ready s.old (ground_of B.Blocks.ground b.old) }
-    ensures { Ready s.new (ground_of B.Blocks.ground b.new) }
+    requires { Ready s.old (ground_of B.Blocks.as_ground b.old) }
+    ensures { Ready s.new (ground_of B.Blocks.as_ground b.new) }
 {
     for j in 0..count {
         let place = start.saturating_add(step.saturating_mul(j));
@@ -63,7 +63,7 @@ fn deletes<B: Blocks + Bounds>(
 }
 
 fn measure<B: Blocks + Bounds + Drop>(rt: &HostRuntime, blocks: B) -> io::Result<()>
-    requires { AtStart (B.Blocks.ground blocks) }
+    requires { AtStart (B.Blocks.as_ground blocks) }
 {
     let mut b = Ration::over(blocks);
     let mut s = open(&b);

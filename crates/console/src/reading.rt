@@ -31,8 +31,8 @@ pub fn run<B: Blocks + Bounds>(
     s: &mut Things,
     b: &mut Ration<B>,
 ) -> io::Result<()>
-    requires { Ready s.old (ground_of B.Blocks.ground b.old) }
-    ensures { Ready s.new (ground_of B.Blocks.ground b.new) }
+    requires { Ready s.old (ground_of B.Blocks.as_ground b.old) }
+    ensures { Ready s.new (ground_of B.Blocks.as_ground b.new) }
 {
     let mut input = BufReader::new(rt.alloc(), rt.stdin())?;
     let mut line = Vec::with_capacity(rt.alloc(), LINE)?;
@@ -55,8 +55,8 @@ pub fn run<B: Blocks + Bounds>(
 
 // A script over blocks of which none is held, with refusals on demand; none is held afterwards.
 pub fn play<B: Blocks + Bounds>(rt: &HostRuntime, blocks: B) -> (B, io::Result<()>)
-    requires { AtStart (B.Blocks.ground blocks) }
-    ensures { (B.Blocks.ground result.0).many ≡ 0 }
+    requires { AtStart (B.Blocks.as_ground blocks) }
+    ensures { (B.Blocks.as_ground result.0).many ≡ 0 }
 {
     let mut ground = Ration::over(blocks);
     let mut things = open(&ground);

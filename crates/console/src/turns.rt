@@ -13,16 +13,16 @@ use things::{Answer, Blocks, Bounds, Op, Things};
 
 // Things on a ground of which nothing is held.
 pub fn open<B: Blocks>(b: &B) -> Things
-    requires { AtStart (ground b.now) }
-    ensures { (Ready result (ground b.now)) × (shelf_of result (ground b.now).block ≡ empty) }
+    requires { AtStart (as_ground b.now) }
+    ensures { (Ready result (as_ground b.now)) × (shelf_of result (as_ground b.now).block ≡ empty) }
 {
     Things::new()
 }
 
 // A call is served, with as many askings and blocks as it may have.
 pub fn ask<B: Blocks + Bounds>(s: &mut Things, b: &mut B, o: Op) -> Answer
-    requires { Ready s.old (ground b.old) }
-    ensures { Told o s.old (ground b.old) result s.new (ground b.new) }
+    requires { Ready s.old (as_ground b.old) }
+    ensures { Told o s.old (as_ground b.old) result s.new (as_ground b.new) }
 {
     // what was refused before this call doesn't count
     let _before = b.failed();
@@ -41,9 +41,9 @@ pub fn reply<B: Blocks + Bounds>(
     text: &[u8],
     number: u64,
 ) -> Option<Reply>
-    requires { Ready s.old (ground_of B.Blocks.ground b.old) }
-    ensures ready { Ready s.new (ground_of B.Blocks.ground b.new) }
-    ensures replied { Replied (line_of text.now) number s.old (ground_of B.Blocks.ground b.old) result s.new (ground_of B.Blocks.ground b.new) }
+    requires { Ready s.old (ground_of B.Blocks.as_ground b.old) }
+    ensures ready { Ready s.new (ground_of B.Blocks.as_ground b.new) }
+    ensures replied { Replied (line_of text.now) number s.old (ground_of B.Blocks.as_ground b.old) result s.new (ground_of B.Blocks.as_ground b.new) }
 {
     match parse(text) {
         Some(Line::Call(o)) => Some(Reply::Told(ask(s, b, o))),
@@ -62,8 +62,8 @@ pub fn reply<B: Blocks + Bounds>(
 
 // Everything is given back.
 pub fn close<B: Blocks + Bounds>(s: Things, b: &mut B)
-    requires { Ready s (ground b.old) }
-    ensures { (ground b.new).many ≡ 0 }
+    requires { Ready s (as_ground b.old) }
+    ensures { (as_ground b.new).many ≡ 0 }
 {
     let m = b.many();
     b.allow(16384 + 128 * m, m);

@@ -47,7 +47,7 @@ impl Model for Heap {
 
 // Each body is proved by hand, statement by statement: docs/PROOFS-BY-HAND.md. Keep them small.
 impl Blocks for Heap {
-    ghost ground = { λ h. ground_of h.words h.left h.top h.failed };
+    ghost as_ground = { λ h. ground_of h.words h.left h.top h.failed };
 
     // Refuses when all blocks are held, and when the allocator does.
     fn obtain(&mut self) -> Option<u32> {

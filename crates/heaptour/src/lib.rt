@@ -43,30 +43,30 @@ pub fn let_go(mut h: Heap) -> bool
 }
 
 fn take<B: Blocks + Bounds>(h: &mut B) -> Option<u32>
-    requires { AtStart (ground h.old) }
-    ensures { Took result 3 (ground h.new) }
+    requires { AtStart (as_ground h.old) }
+    ensures { Took result 3 (as_ground h.new) }
 {
     h.allow(ASKS, 1);
     h.obtain()
 }
 
 fn write<B: Blocks>(h: &mut B, b: u32, i: u32, x: u64)
-    requires { (Holds b (ground h.old)) × ((0 < (ground h.old).left) × (i < 64)) }
-    ensures { Wrote b i x (ground h.old) (ground h.new) }
+    requires { (Holds b (as_ground h.old)) × ((0 < (as_ground h.old).left) × (i < 64)) }
+    ensures { Wrote b i x (as_ground h.old) (as_ground h.new) }
 {
     h.put(b, i, x);
 }
 
 fn read<B: Blocks>(h: &mut B, b: u32, i: u32) -> u64
-    requires { (Holds b (ground h.old)) × ((0 < (ground h.old).left) × (i < 64)) }
-    ensures { Read b i result (ground h.old) (ground h.new) }
+    requires { (Holds b (as_ground h.old)) × ((0 < (as_ground h.old).left) × (i < 64)) }
+    ensures { Read b i result (as_ground h.old) (as_ground h.new) }
 {
     h.get(b, i)
 }
 
 fn give_back<B: Blocks>(h: &mut B, b: u32)
-    requires { (Holds b (ground h.old)) × (0 < (ground h.old).left) }
-    ensures { (ground h.new).many ≡ 0 }
+    requires { (Holds b (as_ground h.old)) × (0 < (as_ground h.old).left) }
+    ensures { (as_ground h.new).many ≡ 0 }
 {
     h.release(b);
 }

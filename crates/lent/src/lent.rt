@@ -59,7 +59,7 @@ impl<'a> Lent<'a> {
 }
 
 impl<'a> Blocks for Lent<'a> {
-    ghost ground = { λ h. ground_of h.words h.free h.size h.meter };
+    ghost as_ground = { λ h. ground_of h.words h.free h.size h.meter };
 
     fn obtain(&mut self) -> Option<u32> {
         self.acquire()

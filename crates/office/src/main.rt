@@ -12,7 +12,7 @@ const WORDS: usize = BLOCKS * BLOCK_WORDS;
 
 // The blocks may be let go once none of them is held.
 fn office<B: Blocks + Bounds + Drop>(rt: &HostRuntime, blocks: B) -> io::Result<()>
-    requires { AtStart (B.Blocks.ground blocks) }
+    requires { AtStart (B.Blocks.as_ground blocks) }
 {
     let (_blocks, ran) = play(rt, blocks);
     ran

@@ -30,13 +30,13 @@ withheld g h r left top f p q =
     (subst (λ (v : Bool). Obtains (bounded g left top f) None (bounded g (left - 1) top v)) (sym (or_all f)) none))
 
 -- either, as a getting decides
-either : {B : Type 0} (ground : B → Ground) (s : Ration B) (r : Option ℕ) (s' : Ration B) (b : Bool) → is_refused ground s ≡ b → Rationed ground s r s'
-    → Obtains (ground_of ground s) r (bounded (ground s'.inner) (s.left - 1) s.top (s.failed || not (is_some r)))
-either ground s r s' true e a = let w = a.refused e in withheld (ground s.inner) (ground s'.inner) r s.left s.top s.failed w.0 w.1
-either ground s r s' false e a = through (ground s.inner) (ground s'.inner) r s.left s.top s.failed (a.passed e)
+either : {B : Type 0} (as_ground : B → Ground) (s : Ration B) (r : Option ℕ) (s' : Ration B) (b : Bool) → is_refused as_ground s ≡ b → Rationed as_ground s r s'
+    → Obtains (ground_of as_ground s) r (bounded (as_ground s'.inner) (s.left - 1) s.top (s.failed || not (is_some r)))
+either as_ground s r s' true e a = let w = a.refused e in withheld (as_ground s.inner) (as_ground s'.inner) r s.left s.top s.failed w.0 w.1
+either as_ground s r s' false e a = through (as_ground s.inner) (as_ground s'.inner) r s.left s.top s.failed (a.passed e)
 
-pub rationed_obtains : {B : Type 0} (ground : B → Ground) (s : Ration B) (r : Option ℕ) (s' : Ration B) → Rationed ground s r s' → Obtains (ground_of ground s) r (ground_of ground s')
-rationed_obtains ground s r s' a =
-    let e : bounded (ground s'.inner) (s.left - 1) s.top (s.failed || not (is_some r)) ≡ ground_of ground s'
-    = λ i. bounded (ground s'.inner) (sym a.left i) (sym a.top i) (sym a.failed i) in
-    subst (λ (k : Ground). Obtains (ground_of ground s) r k) e (either ground s r s' (is_refused ground s) refl a)
+pub rationed_obtains : {B : Type 0} (as_ground : B → Ground) (s : Ration B) (r : Option ℕ) (s' : Ration B) → Rationed as_ground s r s' → Obtains (ground_of as_ground s) r (ground_of as_ground s')
+rationed_obtains as_ground s r s' a =
+    let e : bounded (as_ground s'.inner) (s.left - 1) s.top (s.failed || not (is_some r)) ≡ ground_of as_ground s'
+    = λ i. bounded (as_ground s'.inner) (sym a.left i) (sym a.top i) (sym a.failed i) in
+    subst (λ (k : Ground). Obtains (ground_of as_ground s) r k) e (either as_ground s r s' (is_refused as_ground s) refl a)

@@ -6,7 +6,7 @@ use Rattle.ration.specs.declared.Ration.{Ration}
 
 -- the blocks of the ground below, within bounds of the ration's own
 abbrev pub ground_of : {B : Type 0} → (B → Ground) → Ration B → Ground
-ground_of ground s = record { block = (ground s.inner).block; many = (ground s.inner).many; left = s.left; top = s.top; failed = s.failed }
+ground_of as_ground s = record { block = (as_ground s.inner).block; many = (as_ground s.inner).many; left = s.left; top = s.top; failed = s.failed }
 
 -- a ration that refuses nothing
 abbrev pub fresh : {B : Type 0} → B → Ration B
@@ -34,15 +34,15 @@ limit_reached limit many = nat_lt 0 limit && nat_le limit many
 
 -- a getting is refused: it is the one that was named, or no more may be held
 abbrev pub is_refused : {B : Type 0} → (B → Ground) → Ration B → Bool
-is_refused ground s = s.due == 1 || limit_reached s.limit (ground s.inner).many
+is_refused as_ground s = s.due == 1 || limit_reached s.limit (as_ground s.inner).many
 
 -- a refusal, which is an asking
 abbrev pub turned_away : {B : Type 0} → Ration B → Ration B
 turned_away s = record { inner = s.inner; left = s.left - 1; top = s.top; failed = true; pending = s.pending; due = s.due; limit = s.limit }
 
 -- the ration, and what it stands on, is as it was
-pub record Kept {B : Type 0} (ground : B → Ground) (s s' : Ration B) : Type 0 where
-  pub below : ground s'.inner ≡ ground s.inner
+pub record Kept {B : Type 0} (as_ground : B → Ground) (s s' : Ration B) : Type 0 where
+  pub below : as_ground s'.inner ≡ as_ground s.inner
   pub left : s'.left ≡ s.left
   pub top : s'.top ≡ s.top
   pub failed : s'.failed ≡ s.failed
@@ -51,13 +51,13 @@ pub record Kept {B : Type 0} (ground : B → Ground) (s s' : Ration B) : Type 0 
   pub limit : s'.limit ≡ s.limit
 
 -- it was found whether no more may be held
-pub record Looked {B : Type 0} (ground : B → Ground) (s : Ration B) (r : Bool) (s' : Ration B) : Type 0 where
-  pub answer : r ≡ limit_reached s.limit (ground s.inner).many
-  pub kept : Kept ground s s'
+pub record Looked {B : Type 0} (as_ground : B → Ground) (s : Ration B) (r : Bool) (s' : Ration B) : Type 0 where
+  pub answer : r ≡ limit_reached s.limit (as_ground s.inner).many
+  pub kept : Kept as_ground s s'
 
 -- the ground below was asked for one thing, and nothing else changed
-pub record Passed {B : Type 0} (ground : B → Ground) (does : Ground → Ground) (s s' : Ration B) : Type 0 where
-  pub below : ground s'.inner ≡ does (allowed 1 s.top (ground s.inner))
+pub record Passed {B : Type 0} (as_ground : B → Ground) (does : Ground → Ground) (s s' : Ration B) : Type 0 where
+  pub below : as_ground s'.inner ≡ does (allowed 1 s.top (as_ground s.inner))
   pub left : s'.left ≡ s.left - 1
   pub top : s'.top ≡ s.top
   pub failed : s'.failed ≡ s.failed
@@ -66,9 +66,9 @@ pub record Passed {B : Type 0} (ground : B → Ground) (does : Ground → Ground
   pub limit : s'.limit ≡ s.limit
 
 -- it was found whether a getting is to be refused, and it counts
-pub record Decided {B : Type 0} (ground : B → Ground) (s : Ration B) (r : Bool) (s' : Ration B) : Type 0 where
-  pub answer : r ≡ is_refused ground s
-  pub below : ground s'.inner ≡ ground s.inner
+pub record Decided {B : Type 0} (as_ground : B → Ground) (s : Ration B) (r : Bool) (s' : Ration B) : Type 0 where
+  pub answer : r ≡ is_refused as_ground s
+  pub below : as_ground s'.inner ≡ as_ground s.inner
   pub left : s'.left ≡ s.left
   pub top : s'.top ≡ s.top
   pub failed : s'.failed ≡ s.failed
@@ -77,8 +77,8 @@ pub record Decided {B : Type 0} (ground : B → Ground) (s : Ration B) (r : Bool
   pub limit : s'.limit ≡ s.limit
 
 -- the ground below was asked for a block
-pub record Asked {B : Type 0} (ground : B → Ground) (s : Ration B) (r : Option ℕ) (s' : Ration B) : Type 0 where
-  pub below : Obtains (allowed 1 s.top (ground s.inner)) r (ground s'.inner)
+pub record Asked {B : Type 0} (as_ground : B → Ground) (s : Ration B) (r : Option ℕ) (s' : Ration B) : Type 0 where
+  pub below : Obtains (allowed 1 s.top (as_ground s.inner)) r (as_ground s'.inner)
   pub left : s'.left ≡ s.left - 1
   pub top : s'.top ≡ s.top
   pub failed : s'.failed ≡ s.failed || not (is_some r)
@@ -87,9 +87,9 @@ pub record Asked {B : Type 0} (ground : B → Ground) (s : Ration B) (r : Option
   pub limit : s'.limit ≡ s.limit
 
 -- a getting: refused, with the ground below untouched, or what that one gives; and it counts
-pub record Rationed {B : Type 0} (ground : B → Ground) (s : Ration B) (r : Option ℕ) (s' : Ration B) : Type 0 where
-  pub refused : is_refused ground s ≡ true → (r ≡ None) × (ground s'.inner ≡ ground s.inner)
-  pub passed : is_refused ground s ≡ false → Obtains (allowed 1 s.top (ground s.inner)) r (ground s'.inner)
+pub record Rationed {B : Type 0} (as_ground : B → Ground) (s : Ration B) (r : Option ℕ) (s' : Ration B) : Type 0 where
+  pub refused : is_refused as_ground s ≡ true → (r ≡ None) × (as_ground s'.inner ≡ as_ground s.inner)
+  pub passed : is_refused as_ground s ≡ false → Obtains (allowed 1 s.top (as_ground s.inner)) r (as_ground s'.inner)
   pub left : s'.left ≡ s.left - 1
   pub top : s'.top ≡ s.top
   pub failed : s'.failed ≡ s.failed || not (is_some r)

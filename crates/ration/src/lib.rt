@@ -26,7 +26,7 @@ pub struct Ration<B> {
 impl<B: Blocks> Ration<B> {
     // Over a ground, refusing nothing.
     pub fn over(inner: B) -> Ration<B>
-        ensures { (result ≡ fresh inner) × ((AtStart (B.Blocks.ground inner) → AtStart (ground_of B.Blocks.ground result))) }
+        ensures { (result ≡ fresh inner) × ((AtStart (B.Blocks.as_ground inner) → AtStart (ground_of B.Blocks.as_ground result))) }
     {
         Ration {
             inner,

@@ -8,8 +8,8 @@ use things::{Blocks, Bounds};
 impl<B: Blocks + Bounds> Ration<B> {
     // A block from below, unless that is refused.
     pub(crate) fn ration_out(&mut self) -> Option<u32>
-        requires { (0 < self.old.left) × ((B.Blocks.ground self.old.inner).many < self.old.top) }
-        ensures { Rationed B.Blocks.ground self.old result self.new }
+        requires { (0 < self.old.left) × ((B.Blocks.as_ground self.old.inner).many < self.old.top) }
+        ensures { Rationed B.Blocks.as_ground self.old result self.new }
     {
         if self.refuses() {
             self.turn_away();
@@ -20,7 +20,7 @@ impl<B: Blocks + Bounds> Ration<B> {
 
     // Whether this getting is refused. It counts either way.
     fn refuses(&mut self) -> bool
-        ensures { Decided B.Blocks.ground self.old result self.new }
+        ensures { Decided B.Blocks.as_ground self.old result self.new }
     {
         let named = self.due == 1;
         if self.due > 0 {
@@ -31,7 +31,7 @@ impl<B: Blocks + Bounds> Ration<B> {
 
     // Whether there is a limit, and so many blocks are held.
     fn is_full(&mut self) -> bool
-        ensures { Looked B.Blocks.ground self.old result self.new }
+        ensures { Looked B.Blocks.as_ground self.old result self.new }
     {
         self.limit > 0 && self.inner.many() >= self.limit
     }

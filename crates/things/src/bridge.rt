@@ -8,7 +8,7 @@ use store::Store;
 pub struct Ours {}
 
 impl<B: Blocks> Store<B> for Ours {
-    ghost memory = { λ b. memory_of (B.Blocks.ground b) };
+    ghost memory = { λ b. memory_of (B.Blocks.as_ground b) };
 
     fn obtain(m: &mut B) -> Option<u32> {
         m.obtain()

@@ -3,4 +3,4 @@ use Rattle.console.specs.Turns.{Ready}
 use Rattle.askings.proofs.inserts.Given as goal
 
 abbrev pub invariant-loop-x : goal.invariant-loop-x
-invariant-loop-x g l = Ready l.s (ground_of g.B.Blocks.ground l.b)
+invariant-loop-x g l = Ready l.s (ground_of g.B.Blocks.as_ground l.b)

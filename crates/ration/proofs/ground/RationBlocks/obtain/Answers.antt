@@ -4,4 +4,4 @@ use Rattle.ration.proofs.ground.RationBlocks.obtain.Goals as goal
 pub returns : goal.returns
 returns g c =
     let a = c.ration-out.ensures in
-    (rationed_obtains g.B.Blocks.ground c.args.self.now c.ration-out.result c.ration-out.new.self a, a)
+    (rationed_obtains g.B.Blocks.as_ground c.args.self.now c.ration-out.result c.ration-out.new.self a, a)

@@ -23,7 +23,7 @@ returns-then-i-length g c =
 
 pub at-requires : goal.at-requires
 at-requires g c =
-    let q : Ready 16319 64 c.args.self.now (g.B.Blocks.ground c.length.new.m) = ready_after c.requires c.length.ensures.same in
+    let q : Ready 16319 64 c.args.self.now (g.B.Blocks.as_ground c.length.new.m) = ready_after c.requires c.length.ensures.same in
     record {
       lies = row_lies c.args.n c.args.self.now _ q.sound c.in-ok-t.ensures;
       there = (still_place _ _ c.length.ensures.same row_layout c.in-ok-t.t c.args.i _ c.length.ensures.value (omega arith));
@@ -32,7 +32,7 @@ at-requires g c =
 
 pub returns : goal.returns
 returns g c =
-    let q : Ready 16319 64 c.args.self.now (g.B.Blocks.ground c.length.new.m) = ready_after c.requires c.length.ensures.same in
+    let q : Ready 16319 64 c.args.self.now (g.B.Blocks.as_ground c.length.new.m) = ready_after c.requires c.length.ensures.same in
     served_after (read_untouched c.length.ensures.same)
     (at_served c.args.n c.args.self.now _ _ c.in-ok-t.t q.sound c.in-ok-t.ensures
     (read_untouched c.at.ensures.same) c.args.i _ tt (still_place _ _ c.length.ensures.same row_layout c.in-ok-t.t c.args.i _ c.length.ensures.value (omega arith)) (c.at.ensures.value 0))

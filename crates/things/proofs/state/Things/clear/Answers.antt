@@ -5,7 +5,7 @@ use Rattle.things.proofs.state.Things.clear.Goals as goal
 
 pub give-slot-requires : goal.give-slot-requires
 give-slot-requires g c = record {
-  lies = slot_all_lies c.args.self.now (memory_of (g.B.Blocks.ground c.args.b.now)) c.args.n c.peek.result c.requires.sound c.requires.low c.peek.ensures;
+  lies = slot_all_lies c.args.self.now (memory_of (g.B.Blocks.as_ground c.args.b.now)) c.args.n c.peek.result c.requires.sound c.requires.low c.peek.ensures;
   asks = slot_asks give_asks c.args.n c.peek.result c.requires.sound c.requires.low c.peek.ensures c.requires.asks;
 }
 

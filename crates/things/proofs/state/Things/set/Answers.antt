@@ -23,7 +23,7 @@ returns-then-i-length g c =
 
 pub set-requires : goal.set-requires
 set-requires g c =
-    let q : Ready 16319 64 c.args.self.now (g.B.Blocks.ground c.length.new.m) = ready_after c.requires c.length.ensures.same in
+    let q : Ready 16319 64 c.args.self.now (g.B.Blocks.as_ground c.length.new.m) = ready_after c.requires c.length.ensures.same in
     record {
       lies = row_lies c.args.n c.args.self.now _ q.sound c.in-ok-t.ensures;
       there = (still_place _ _ c.length.ensures.same row_layout c.in-ok-t.t c.args.i _ c.length.ensures.value (omega arith));
@@ -33,7 +33,7 @@ set-requires g c =
 
 pub returns : goal.returns
 returns g c =
-    let q : Ready 16319 64 c.args.self.now (g.B.Blocks.ground c.length.new.m) = ready_after c.requires c.length.ensures.same in
+    let q : Ready 16319 64 c.args.self.now (g.B.Blocks.as_ground c.length.new.m) = ready_after c.requires c.length.ensures.same in
     let w = c.set.ensures in
     served_after (read_untouched c.length.ensures.same)
     (set_served c.args.n _ c.args.i c.args.x c.args.self.now _ _ c.in-ok-t.t tt q.sound c.in-ok-t.ensures

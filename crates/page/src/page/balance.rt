@@ -11,7 +11,7 @@ impl<C: Codec> Page<C> {
     pub fn share(&mut self, right: &mut Page<C>, count: usize)
         requires fits { (count ≤ page_limit) × (self.old.len + right.old.len ≤ count + page_limit) }
         requires there { count ≤ self.old.len + right.old.len }
-        ensures same { entries width decode self.new ++ entries width decode right.new ≡ entries width decode self.old ++ entries width decode right.old }
+        ensures same { entries C.Codec.width C.Codec.decode self.new ++ entries C.Codec.width C.Codec.decode right.new ≡ entries C.Codec.width C.Codec.decode self.old ++ entries C.Codec.width C.Codec.decode right.old }
         ensures left_len { self.new.len ≡ count }
         ensures total { self.new.len + right.new.len ≡ self.old.len + right.old.len }
     {
@@ -25,7 +25,7 @@ impl<C: Codec> Page<C> {
     // Has the entries of two neighbours in this one, or else evenly in both. Whether they are all in this one.
     pub fn even_out(&mut self, right: &mut Page<C>, cap: usize) -> bool
         requires { «cap» ≤ block_room }
-        ensures same { entries width decode self.new ++ entries width decode right.new ≡ entries width decode self.old ++ entries width decode right.old }
+        ensures same { entries C.Codec.width C.Codec.decode self.new ++ entries C.Codec.width C.Codec.decode right.new ≡ entries C.Codec.width C.Codec.decode self.old ++ entries C.Codec.width C.Codec.decode right.old }
         ensures total { self.new.len + right.new.len ≡ self.old.len + right.old.len }
         ensures one { result ≡ true → (right.new.len ≡ 0) × (self.new.len ≤ «cap») }
         ensures two { result ≡ false → («cap» < self.new.len + right.new.len) × (self.new.len ≤ right.new.len) × (right.new.len ≤ self.new.len + 1) }

@@ -11,7 +11,7 @@ use std::marker::PhantomData;
 impl<C: Codec> Page<C> {
     pub fn new() -> Page<C>
         ensures len { result.len ≡ 0 }
-        ensures after { entries width decode result ≡ [] }
+        ensures after { entries C.Codec.width C.Codec.decode result ≡ [] }
     {
         Page {
             words: [0; WORDS],
@@ -28,7 +28,7 @@ impl<C: Codec> Page<C> {
 
     pub fn get(&self, at: usize) -> C::Item
         requires { at < self.now.len }
-        ensures value { (d : C.Item) → result ≡ slice_index_or (entries width decode self.now) at d }
+        ensures value { (d : C.Item) → result ≡ slice_index_or (entries C.Codec.width C.Codec.decode self.now) at d }
         ensures valid { T (C.Codec.valid result) }
     {
         C::read(&self.words, at * C::width())
@@ -39,7 +39,7 @@ impl<C: Codec> Page<C> {
         requires room { self.old.len < page_limit }
         requires valid { T (C.Codec.valid x) }
         ensures len { self.new.len ≡ self.old.len + 1 }
-        ensures after { entries width decode self.new ≡ entries width decode self.old ++ (x ∷ []) }
+        ensures after { entries C.Codec.width C.Codec.decode self.new ≡ entries C.Codec.width C.Codec.decode self.old ++ (x ∷ []) }
     {
         C::write(x, &mut self.words, self.len * C::width());
         self.len += 1;
@@ -49,7 +49,7 @@ impl<C: Codec> Page<C> {
         requires there { at < self.old.len }
         requires valid { T (C.Codec.valid x) }
         ensures len { self.new.len ≡ self.old.len }
-        ensures after { entries width decode self.new ≡ slice_set (entries width decode self.old) at x }
+        ensures after { entries C.Codec.width C.Codec.decode self.new ≡ slice_set (entries C.Codec.width C.Codec.decode self.old) at x }
     {
         C::write(x, &mut self.words, at * C::width());
     }
@@ -58,7 +58,7 @@ impl<C: Codec> Page<C> {
     pub fn truncate(&mut self, len: usize)
         requires { len ≤ self.old.len }
         ensures len { self.new.len ≡ len }
-        ensures after { entries width decode self.new ≡ take len (entries width decode self.old) }
+        ensures after { entries C.Codec.width C.Codec.decode self.new ≡ take len (entries C.Codec.width C.Codec.decode self.old) }
     {
         self.len = len;
     }

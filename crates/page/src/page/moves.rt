@@ -13,8 +13,8 @@ impl<C: Codec> Page<C> {
         requires there { count ≤ right.old.len }
         ensures left_len { self.new.len ≡ self.old.len + count }
         ensures right_len { right.new.len ≡ right.old.len - count }
-        ensures left { entries width decode self.new ≡ entries width decode self.old ++ take count (entries width decode right.old) }
-        ensures right { entries width decode right.new ≡ drop count (entries width decode right.old) }
+        ensures left { entries C.Codec.width C.Codec.decode self.new ≡ entries C.Codec.width C.Codec.decode self.old ++ take count (entries C.Codec.width C.Codec.decode right.old) }
+        ensures right { entries C.Codec.width C.Codec.decode right.new ≡ drop count (entries C.Codec.width C.Codec.decode right.old) }
     {
         let rest = right.split_off(count);
         self.append(right);
@@ -27,8 +27,8 @@ impl<C: Codec> Page<C> {
         requires there { count ≤ left.old.len }
         ensures right_len { self.new.len ≡ self.old.len + count }
         ensures left_len { left.new.len ≡ left.old.len - count }
-        ensures right { entries width decode self.new ≡ drop (left.old.len - count) (entries width decode left.old) ++ entries width decode self.old }
-        ensures left { entries width decode left.new ≡ take (left.old.len - count) (entries width decode left.old) }
+        ensures right { entries C.Codec.width C.Codec.decode self.new ≡ drop (left.old.len - count) (entries C.Codec.width C.Codec.decode left.old) ++ entries C.Codec.width C.Codec.decode self.old }
+        ensures left { entries C.Codec.width C.Codec.decode left.new ≡ take (left.old.len - count) (entries C.Codec.width C.Codec.decode left.old) }
     {
         let mut moved = left.split_off(left.len() - count);
         moved.append(self);

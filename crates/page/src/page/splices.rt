@@ -14,7 +14,7 @@ impl<C: Codec> Page<C> {
         requires within { to ≤ other.now.len }
         requires fits { self.old.len + (to - from) ≤ page_limit }
         ensures len { self.new.len ≡ self.old.len + (to - from) }
-        ensures after { entries width decode self.new ≡ entries width decode self.old ++ between from to (entries width decode other.now) }
+        ensures after { entries C.Codec.width C.Codec.decode self.new ≡ entries C.Codec.width C.Codec.decode self.old ++ between from to (entries C.Codec.width C.Codec.decode other.now) }
     {
         for i in from..to {
             self.push(other.get(i));
@@ -25,7 +25,7 @@ impl<C: Codec> Page<C> {
     pub fn append(&mut self, other: &Page<C>)
         requires { self.old.len + other.now.len ≤ page_limit }
         ensures len { self.new.len ≡ self.old.len + other.now.len }
-        ensures after { entries width decode self.new ≡ entries width decode self.old ++ entries width decode other.now }
+        ensures after { entries C.Codec.width C.Codec.decode self.new ≡ entries C.Codec.width C.Codec.decode self.old ++ entries C.Codec.width C.Codec.decode other.now }
     {
         self.extend(other, 0, other.len());
     }
@@ -34,7 +34,7 @@ impl<C: Codec> Page<C> {
     fn tail(&self, at: usize) -> Page<C>
         requires { at ≤ self.now.len }
         ensures len { result.len ≡ self.now.len - at }
-        ensures after { entries width decode result ≡ drop at (entries width decode self.now) }
+        ensures after { entries C.Codec.width C.Codec.decode result ≡ drop at (entries C.Codec.width C.Codec.decode self.now) }
     {
         let mut upper = Page::new();
         upper.extend(self, at, self.len);
@@ -45,8 +45,8 @@ impl<C: Codec> Page<C> {
     pub fn split_off(&mut self, at: usize) -> Page<C>
         requires { at ≤ self.old.len }
         ensures len { (self.new.len ≡ at) × (result.len ≡ self.old.len - at) }
-        ensures stay { entries width decode self.new ≡ take at (entries width decode self.old) }
-        ensures leave { entries width decode result ≡ drop at (entries width decode self.old) }
+        ensures stay { entries C.Codec.width C.Codec.decode self.new ≡ take at (entries C.Codec.width C.Codec.decode self.old) }
+        ensures leave { entries C.Codec.width C.Codec.decode result ≡ drop at (entries C.Codec.width C.Codec.decode self.old) }
     {
         let upper = self.tail(at);
         self.truncate(at);
@@ -58,7 +58,7 @@ impl<C: Codec> Page<C> {
         requires room { self.old.len + other.now.len < page_limit }
         requires valid { T (C.Codec.valid x) }
         ensures len { self.new.len ≡ self.old.len + 1 + other.now.len }
-        ensures after { entries width decode self.new ≡ entries width decode self.old ++ (x ∷ entries width decode other.now) }
+        ensures after { entries C.Codec.width C.Codec.decode self.new ≡ entries C.Codec.width C.Codec.decode self.old ++ (x ∷ entries C.Codec.width C.Codec.decode other.now) }
     {
         self.push(x);
         self.append(other);
@@ -70,7 +70,7 @@ impl<C: Codec> Page<C> {
         requires room { self.old.len < page_limit }
         requires valid { T (C.Codec.valid x) }
         ensures len { self.new.len ≡ self.old.len + 1 }
-        ensures after { entries width decode self.new ≡ insert (entries width decode self.old) at x }
+        ensures after { entries C.Codec.width C.Codec.decode self.new ≡ insert (entries C.Codec.width C.Codec.decode self.old) at x }
     {
         let upper = self.split_off(at);
         self.push_and_append(x, &upper);
@@ -80,7 +80,7 @@ impl<C: Codec> Page<C> {
     pub fn cut_out(&mut self, at: usize, count: usize)
         requires { at + count ≤ self.old.len }
         ensures len { self.new.len ≡ self.old.len - count }
-        ensures after { entries width decode self.new ≡ take at (entries width decode self.old) ++ drop (at + count) (entries width decode self.old) }
+        ensures after { entries C.Codec.width C.Codec.decode self.new ≡ take at (entries C.Codec.width C.Codec.decode self.old) ++ drop (at + count) (entries C.Codec.width C.Codec.decode self.old) }
     {
         let upper = self.tail(at + count);
         self.truncate(at);
@@ -90,10 +90,10 @@ impl<C: Codec> Page<C> {
     // Takes out the entry at `at`, and says what it was.
     pub fn remove(&mut self, at: usize) -> C::Item
         requires { at < self.old.len }
-        ensures value { (d : C.Item) → result ≡ slice_index_or (entries width decode self.old) at d }
+        ensures value { (d : C.Item) → result ≡ slice_index_or (entries C.Codec.width C.Codec.decode self.old) at d }
         ensures valid { T (C.Codec.valid result) }
         ensures len { self.new.len ≡ self.old.len - 1 }
-        ensures after { entries width decode self.new ≡ remove (entries width decode self.old) at }
+        ensures after { entries C.Codec.width C.Codec.decode self.new ≡ remove (entries C.Codec.width C.Codec.decode self.old) at }
     {
         let x = self.get(at);
         self.cut_out(at, 1);
@@ -106,7 +106,7 @@ impl<C: Codec> Page<C> {
         requires room { self.old.len < page_limit }
         requires valid { (T (C.Codec.valid x)) × (T (C.Codec.valid y)) }
         ensures len { self.new.len ≡ self.old.len + 1 }
-        ensures after { entries width decode self.new ≡ take at (entries width decode self.old) ++ (x ∷ (y ∷ drop (at + 1) (entries width decode self.old))) }
+        ensures after { entries C.Codec.width C.Codec.decode self.new ≡ take at (entries C.Codec.width C.Codec.decode self.old) ++ (x ∷ (y ∷ drop (at + 1) (entries C.Codec.width C.Codec.decode self.old))) }
     {
         self.replace(at, y);
         self.insert(at, x);

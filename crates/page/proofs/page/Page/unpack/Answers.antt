@@ -2,10 +2,10 @@ use Rattle.std.proofs.Common.{get_or, arith}
 use Rattle.page.proofs.Images.{few_entries, unpacked}
 use Rattle.page.proofs.page.Page.unpack.Goals as goal
 
-pub invariant-of-page : goal.invariant-of-page
-invariant-of-page g c = (omega (arith, few_entries (get_or c.args.image.now 0 0) g.C.Codec.width 62 g.met.C.Codec.some c.requires), tt)
+pub invariant_of-page : goal.invariant_of-page
+invariant_of-page g c = (omega (arith, few_entries (get_or c.args.image.now 0 0) g.C.Codec.width 62 g.met.C.Codec.some c.requires), tt)
 
 pub returns : goal.returns
 returns g c =
     let n = c.read-head.ensures in
-    record { len = n; after = unpacked g.C.Codec.width g.C.Codec.decode c.read-head.result c.args.image.now c.copy-from-slice.new.self _ n c.requires c.told-image c.copy-from-slice.ensures.after }
+    record { len = n; after = unpacked g.C.Codec.width g.C.Codec.decode c.read-head.result c.args.image.now c.copy_from_slice.new.self _ n c.requires c.told-image c.copy_from_slice.ensures.after }

@@ -26,10 +26,10 @@ fn block_word<C: Codec>(i: u32) -> u32
 
 // The block of the child that is next, or none where all children have been.
 fn next_child<C: Codec, W: Store<M>, M>(m: &mut M, at: Visit) -> Option<u32>
-    requires asks { 2 ≤ (memory m.old).left }
-    requires there { Stored (memory m.old).block at.block }
-    requires readable { Readable C.Codec.width at.place ((memory m.old).block at.block) }
-    ensures { MatchOption result (Childless at (memory m.old) (memory m.new)) (λ c. NextChild C.Codec.width at c (memory m.old) (memory m.new)) }
+    requires asks { 2 ≤ (W.Store.memory m.old).left }
+    requires there { Stored (W.Store.memory m.old).block at.block }
+    requires readable { Readable C.Codec.width at.place ((W.Store.memory m.old).block at.block) }
+    ensures { MatchOption result (Childless at (W.Store.memory m.old) (W.Store.memory m.new)) (λ c. NextChild C.Codec.width at c (W.Store.memory m.old) (W.Store.memory m.new)) }
 {
     let count = W::get(m, at.block, 0);
     if (at.place as u64) < count {
@@ -42,10 +42,10 @@ fn next_child<C: Codec, W: Store<M>, M>(m: &mut M, at: Visit) -> Option<u32>
 
 // A child that is a leaf goes back; one that is a node goes on the stack.
 fn go_down<W: Store<M>, M>(m: &mut M, stack: &mut Stack, child: u32, height: u8)
-    requires asks { 0 < (memory m.old).left }
-    requires there { Stored (memory m.old).block child }
+    requires asks { 0 < (W.Store.memory m.old).left }
+    requires there { Stored (W.Store.memory m.old).block child }
     requires room { height ≤ stack_room }
-    ensures { GoneDown height child (trail stack.old) (memory m.old) (trail stack.new) (memory m.new) }
+    ensures { GoneDown height child (trail stack.old) (W.Store.memory m.old) (trail stack.new) (W.Store.memory m.new) }
 {
     if stack.len() + 1 < height as usize {
         stack.push(Visit {
@@ -60,9 +60,9 @@ fn go_down<W: Store<M>, M>(m: &mut M, stack: &mut Stack, child: u32, height: u8)
 // A tree that is more than a leaf.
 pub fn give_nodes<K: Kind, W: Store<M>, M>(m: &mut M, t: Tree)
     requires tall { 1 < t.height }
-    requires lies { Lies K.Kind.layout (memory m.old) t }
-    requires asks { give_asks * tall_blocks K.Kind.layout t.height (memory m.old).block t.root ≤ (memory m.old).left }
-    ensures { GivenBack K.Kind.layout t (memory m.old) (memory m.new) }
+    requires lies { Lies K.Kind.layout (W.Store.memory m.old) t }
+    requires asks { give_asks * tall_blocks K.Kind.layout t.height (W.Store.memory m.old).block t.root ≤ (W.Store.memory m.old).left }
+    ensures { GivenBack K.Kind.layout t (W.Store.memory m.old) (W.Store.memory m.new) }
 {
     let mut stack = Stack::new();
     stack.push(Visit {

@@ -1,4 +1,5 @@
 // A script is read line by line, each call is served, and the replies are written.
+#![tactic(auto)]
 mod reading;
 mod turns;
 

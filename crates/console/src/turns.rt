@@ -13,16 +13,16 @@ use things::{Answer, Blocks, Bounds, Op, Things};
 
 // Things on a ground of which nothing is held.
 pub fn open<B: Blocks>(b: &B) -> Things
-    requires { AtStart (as_ground b.now) }
-    ensures { (Ready result (as_ground b.now)) × (shelf_of result (as_ground b.now).block ≡ empty) }
+    requires { AtStart (B.Blocks.as_ground b.now) }
+    ensures { (Ready result (B.Blocks.as_ground b.now)) × (shelf_of result (B.Blocks.as_ground b.now).block ≡ empty) }
 {
     Things::new()
 }
 
 // A call is served, with as many askings and blocks as it may have.
 pub fn ask<B: Blocks + Bounds>(s: &mut Things, b: &mut B, o: Op) -> Answer
-    requires { Ready s.old (as_ground b.old) }
-    ensures { Told o s.old (as_ground b.old) result s.new (as_ground b.new) }
+    requires { Ready s.old (B.Blocks.as_ground b.old) }
+    ensures { Told o s.old (B.Blocks.as_ground b.old) result s.new (B.Blocks.as_ground b.new) }
 {
     // what was refused before this call doesn't count
     let _before = b.failed();
@@ -62,8 +62,8 @@ pub fn reply<B: Blocks + Bounds>(
 
 // Everything is given back.
 pub fn close<B: Blocks + Bounds>(s: Things, b: &mut B)
-    requires { Ready s (as_ground b.old) }
-    ensures { (as_ground b.new).many ≡ 0 }
+    requires { Ready s (B.Blocks.as_ground b.old) }
+    ensures { (B.Blocks.as_ground b.new).many ≡ 0 }
 {
     let m = b.many();
     b.allow(16384 + 128 * m, m);

@@ -39,9 +39,9 @@ fn rise<K: Kind, W: Store<M>, M>(
     two: Option<Child>,
     reserve: &mut Reserve,
 ) -> (Child, Option<Child>)
-    requires asks { turn_asks ≤ (memory m.old).left }
-    requires ready { Ready K.Kind.layout Node-as-Codec.valid b place (memory m.old) reserve.old one two }
-    ensures { Settled K.Kind.layout.children (entry_of K.Kind.layout) K.Kind.layout.node_cap turn_asks b (placed (K.Kind.layout.children ((memory m.old).block b)) place one two) (memory m.old) reserve.old result.0 result.1 (memory m.new) reserve.new }
+    requires asks { turn_asks ≤ (W.Store.memory m.old).left }
+    requires ready { Ready K.Kind.layout Node-as-Codec.valid b place (W.Store.memory m.old) reserve.old one two }
+    ensures { Settled K.Kind.layout.children (entry_of K.Kind.layout) K.Kind.layout.node_cap turn_asks b (placed (K.Kind.layout.children ((W.Store.memory m.old).block b)) place one two) (W.Store.memory m.old) reserve.old result.0 result.1 (W.Store.memory m.new) reserve.new }
 {
     let mut page = load_node::<K, W, M>(m, b);
     put::<K>(&mut page, place as usize, one, two);
@@ -59,10 +59,10 @@ pub fn climb<K: Kind, W: Store<M>, M>(
     reserve: &mut Reserve,
 ) -> (Child, Option<Child>)
     requires deep { depth ≤ longest }
-    requires asks { depth * turn_asks ≤ (memory m.old).left }
-    requires rises { CanRise K.Kind.layout (branches blocks.now places.now depth) (memory m.old) reserve.old first second }
-    ensures climbs { Climbs K.Kind.layout (branches blocks.now places.now depth) (memory m.old) reserve.old first second [] (memory m.new) reserve.new result.0 result.1 }
-    ensures spent { Spent (depth * turn_asks) (memory m.old) (memory m.new) }
+    requires asks { depth * turn_asks ≤ (W.Store.memory m.old).left }
+    requires rises { CanRise K.Kind.layout (branches blocks.now places.now depth) (W.Store.memory m.old) reserve.old first second }
+    ensures climbs { Climbs K.Kind.layout (branches blocks.now places.now depth) (W.Store.memory m.old) reserve.old first second [] (W.Store.memory m.new) reserve.new result.0 result.1 }
+    ensures spent { Spent (depth * turn_asks) (W.Store.memory m.old) (W.Store.memory m.new) }
 {
     let mut one = first;
     let mut two = second;

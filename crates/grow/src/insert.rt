@@ -19,9 +19,9 @@ use tree::top::Tree;
 
 // A leaf with one item: the tree.
 fn plant<K: Kind, W: Store<M>, M>(m: &mut M, x: K::Item) -> Result<Tree, NoRoom>
-    requires asks { plant_asks ≤ (memory m.old).left }
-    requires room { (memory m.old).many < (memory m.old).top }
-    ensures { MatchResult result (λ t. Planted K.Kind.layout x (memory m.old) t (memory m.new)) (λ _. Undone insert_undone (memory m.old) (memory m.new)) }
+    requires asks { plant_asks ≤ (W.Store.memory m.old).left }
+    requires room { (W.Store.memory m.old).many < (W.Store.memory m.old).top }
+    ensures { MatchResult result (λ t. Planted K.Kind.layout x (W.Store.memory m.old) t (W.Store.memory m.new)) (λ _. Undone insert_undone (W.Store.memory m.old) (W.Store.memory m.new)) }
 {
     match Fresh::obtain::<W, M>(m) {
         Some(fresh) => {
@@ -53,12 +53,12 @@ fn insert_below<K: Kind, W: Store<M>, M>(
     at: u64,
     x: K::Item,
 ) -> Result<Tree, NoRoom>
-    requires lies { Lies K.Kind.layout (memory m.old) t }
+    requires lies { Lies K.Kind.layout (W.Store.memory m.old) t }
     requires tall { 0 < t.height }
-    requires place { at ≤ length (holds K.Kind.layout (memory m.old).block t) }
-    requires asks { insert_asks ≤ (memory m.old).left }
-    requires room { (memory m.old).many + most_blocks ≤ (memory m.old).top }
-    ensures { MatchResult result (λ t'. Inserted K.Kind.layout at x t (memory m.old) t' (memory m.new)) (λ _. Undone insert_undone (memory m.old) (memory m.new)) }
+    requires place { at ≤ length (holds K.Kind.layout (W.Store.memory m.old).block t) }
+    requires asks { insert_asks ≤ (W.Store.memory m.old).left }
+    requires room { (W.Store.memory m.old).many + most_blocks ≤ (W.Store.memory m.old).top }
+    ensures { MatchResult result (λ t'. Inserted K.Kind.layout at x t (W.Store.memory m.old) t' (W.Store.memory m.new)) (λ _. Undone insert_undone (W.Store.memory m.old) (W.Store.memory m.new)) }
 {
     let reached = descend::<K, W, M>(m, t, at, true);
     let path = reached.path;
@@ -85,11 +85,11 @@ pub fn insert<K: Kind, W: Store<M>, M>(
     at: u64,
     x: K::Item,
 ) -> Result<Tree, NoRoom>
-    requires lies { Lies K.Kind.layout (memory m.old) t }
-    requires place { at ≤ length (holds K.Kind.layout (memory m.old).block t) }
-    requires asks { insert_asks ≤ (memory m.old).left }
-    requires room { (memory m.old).many + most_blocks ≤ (memory m.old).top }
-    ensures { MatchResult result (λ t'. Inserted K.Kind.layout at x t (memory m.old) t' (memory m.new)) (λ _. Undone insert_undone (memory m.old) (memory m.new)) }
+    requires lies { Lies K.Kind.layout (W.Store.memory m.old) t }
+    requires place { at ≤ length (holds K.Kind.layout (W.Store.memory m.old).block t) }
+    requires asks { insert_asks ≤ (W.Store.memory m.old).left }
+    requires room { (W.Store.memory m.old).many + most_blocks ≤ (W.Store.memory m.old).top }
+    ensures { MatchResult result (λ t'. Inserted K.Kind.layout at x t (W.Store.memory m.old) t' (W.Store.memory m.new)) (λ _. Undone insert_undone (W.Store.memory m.old) (W.Store.memory m.new)) }
 {
     if t.height == 0 {
         plant::<K, W, M>(m, x)

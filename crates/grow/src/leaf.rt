@@ -23,14 +23,14 @@ pub fn insert_leaf<K: Kind, W: Store<M>, M>(
     x: K::Item,
     reserve: &mut Reserve,
 ) -> (Child, Option<Child>)
-    requires asks { turn_asks ≤ (memory m.old).left }
-    requires there { Stored (memory m.old).block b }
-    requires few { length (K.Kind.layout.items ((memory m.old).block b)) ≤ K.Kind.layout.leaf_cap }
-    requires place { at ≤ length (K.Kind.layout.items ((memory m.old).block b)) }
-    requires room { K.Kind.layout.leaf_cap ≤ length (K.Kind.layout.items ((memory m.old).block b)) → 0 < reserve.old.count }
-    requires stocked { Stocked (uses reserve.old) (memory m.old).block }
+    requires asks { turn_asks ≤ (W.Store.memory m.old).left }
+    requires there { Stored (W.Store.memory m.old).block b }
+    requires few { length (K.Kind.layout.items ((W.Store.memory m.old).block b)) ≤ K.Kind.layout.leaf_cap }
+    requires place { at ≤ length (K.Kind.layout.items ((W.Store.memory m.old).block b)) }
+    requires room { K.Kind.layout.leaf_cap ≤ length (K.Kind.layout.items ((W.Store.memory m.old).block b)) → 0 < reserve.old.count }
+    requires stocked { Stocked (uses reserve.old) (W.Store.memory m.old).block }
     requires beside { uses reserve.old b ≡ 0 }
-    ensures { Settled K.Kind.layout.items (entry_of_leaf K.Kind.layout) K.Kind.layout.leaf_cap turn_asks b (insert (K.Kind.layout.items ((memory m.old).block b)) at x) (memory m.old) reserve.old result.0 result.1 (memory m.new) reserve.new }
+    ensures { Settled K.Kind.layout.items (entry_of_leaf K.Kind.layout) K.Kind.layout.leaf_cap turn_asks b (insert (K.Kind.layout.items ((W.Store.memory m.old).block b)) at x) (W.Store.memory m.old) reserve.old result.0 result.1 (W.Store.memory m.new) reserve.new }
 {
     let mut page = load_leaf::<K, W, M>(m, b);
     page.insert(at, x);

@@ -21,11 +21,11 @@ fn node_above<K: Kind, W: Store<M>, M>(
     other: Child,
     reserve: &mut Reserve,
 ) -> u32
-    requires asks { page_asks ≤ (memory m.old).left }
+    requires asks { page_asks ≤ (W.Store.memory m.old).left }
     requires valid { (T (Node-as-Codec.valid one)) × (T (Node-as-Codec.valid other)) }
     requires some { 0 < reserve.old.count }
-    requires stocked { Stocked (uses reserve.old) (memory m.old).block }
-    ensures { Above K.Kind.layout page_asks (one ∷ (other ∷ [])) (memory m.old) reserve.old result (memory m.new) reserve.new }
+    requires stocked { Stocked (uses reserve.old) (W.Store.memory m.old).block }
+    ensures { Above K.Kind.layout page_asks (one ∷ (other ∷ [])) (W.Store.memory m.old) reserve.old result (W.Store.memory m.new) reserve.new }
 {
     let mut page = Page::new();
     page.push(one);
@@ -43,11 +43,11 @@ pub fn new_root<K: Kind, W: Store<M>, M>(
     two: Option<Child>,
     reserve: &mut Reserve,
 ) -> Tree
-    requires asks { page_asks ≤ (memory m.old).left }
+    requires asks { page_asks ≤ (W.Store.memory m.old).left }
     requires low { height < 255 }
-    requires rises { CanRise K.Kind.layout [] (memory m.old) reserve.old one two }
-    ensures crowns { Crowns K.Kind.layout height (memory m.old) reserve.old one two (memory m.new) reserve.new result }
-    ensures spent { Spent page_asks (memory m.old) (memory m.new) }
+    requires rises { CanRise K.Kind.layout [] (W.Store.memory m.old) reserve.old one two }
+    ensures crowns { Crowns K.Kind.layout height (W.Store.memory m.old) reserve.old one two (W.Store.memory m.new) reserve.new result }
+    ensures spent { Spent page_asks (W.Store.memory m.old) (W.Store.memory m.new) }
 {
     match two {
         None => Tree {

@@ -40,16 +40,16 @@ fn split<C: Codec, W: Store<M>, M>(
     page: &mut Page<C>,
     reserve: &mut Reserve,
 ) -> Upper<C>
-    requires asks { settle_asks ≤ (memory m.old).left }
-    requires there { Stored (memory m.old).block b }
+    requires asks { settle_asks ≤ (W.Store.memory m.old).left }
+    requires there { Stored (W.Store.memory m.old).block b }
     requires fits { (page.old.len + 1) / 2 * C.Codec.width ≤ 62 }
     requires some { 0 < reserve.old.count }
-    requires stocked { Stocked (uses reserve.old) (memory m.old).block }
+    requires stocked { Stocked (uses reserve.old) (W.Store.memory m.old).block }
     requires beside { uses reserve.old b ≡ 0 }
     ensures stay { entries C.Codec.width C.Codec.decode page.new ≡ lower (entries C.Codec.width C.Codec.decode page.old) }
     ensures leave { entries C.Codec.width C.Codec.decode result.page ≡ upper (entries C.Codec.width C.Codec.decode page.old) }
     ensures lens { (page.new.len ≡ page.old.len / 2) × (page.new.len + result.page.len ≡ page.old.len) }
-    ensures parted { Parted (imaged C.Codec.width C.Codec.decode) settle_asks b (entries C.Codec.width C.Codec.decode page.old) (memory m.old) reserve.old result.block (memory m.new) reserve.new }
+    ensures parted { Parted (imaged C.Codec.width C.Codec.decode) settle_asks b (entries C.Codec.width C.Codec.decode page.old) (W.Store.memory m.old) reserve.old result.block (W.Store.memory m.new) reserve.new }
 {
     let upper = halve::<C>(page);
     let block = reserve.take().into_block();
@@ -65,14 +65,14 @@ pub fn settle_leaf<K: Kind, W: Store<M>, M>(
     mut page: Page<K::Leaf>,
     reserve: &mut Reserve,
 ) -> (Child, Option<Child>)
-    requires asks { settle_asks ≤ (memory m.old).left }
-    requires there { Stored (memory m.old).block b }
+    requires asks { settle_asks ≤ (W.Store.memory m.old).left }
+    requires there { Stored (W.Store.memory m.old).block b }
     requires some { 0 < page.len }
     requires few { page.len ≤ K.Kind.layout.leaf_cap + 1 }
     requires room { K.Kind.layout.leaf_cap < page.len → 0 < reserve.old.count }
-    requires stocked { Stocked (uses reserve.old) (memory m.old).block }
+    requires stocked { Stocked (uses reserve.old) (W.Store.memory m.old).block }
     requires beside { uses reserve.old b ≡ 0 }
-    ensures { Settled K.Kind.layout.items (entry_of_leaf K.Kind.layout) K.Kind.layout.leaf_cap settle_asks b (entries K.Leaf.Codec.width K.Leaf.Codec.decode page) (memory m.old) reserve.old result.0 result.1 (memory m.new) reserve.new }
+    ensures { Settled K.Kind.layout.items (entry_of_leaf K.Kind.layout) K.Kind.layout.leaf_cap settle_asks b (entries K.Leaf.Codec.width K.Leaf.Codec.decode page) (W.Store.memory m.old) reserve.old result.0 result.1 (W.Store.memory m.new) reserve.new }
 {
     if page.len() <= K::leaf_cap() {
         store_page::<K::Leaf, W, M>(m, b, &page);
@@ -92,15 +92,15 @@ pub fn settle_node<K: Kind, W: Store<M>, M>(
     mut page: Page<K::Node>,
     reserve: &mut Reserve,
 ) -> (Child, Option<Child>)
-    requires asks { settle_asks ≤ (memory m.old).left }
-    requires there { Stored (memory m.old).block b }
+    requires asks { settle_asks ≤ (W.Store.memory m.old).left }
+    requires there { Stored (W.Store.memory m.old).block b }
     requires some { 0 < page.len }
     requires few { page.len ≤ K.Kind.layout.node_cap + 1 }
     requires counts { counts (entries K.Node.Codec.width K.Node.Codec.decode page) < 2 ^ 64 }
     requires room { K.Kind.layout.node_cap < page.len → 0 < reserve.old.count }
-    requires stocked { Stocked (uses reserve.old) (memory m.old).block }
+    requires stocked { Stocked (uses reserve.old) (W.Store.memory m.old).block }
     requires beside { uses reserve.old b ≡ 0 }
-    ensures { Settled K.Kind.layout.children (entry_of K.Kind.layout) K.Kind.layout.node_cap settle_asks b (entries K.Node.Codec.width K.Node.Codec.decode page) (memory m.old) reserve.old result.0 result.1 (memory m.new) reserve.new }
+    ensures { Settled K.Kind.layout.children (entry_of K.Kind.layout) K.Kind.layout.node_cap settle_asks b (entries K.Node.Codec.width K.Node.Codec.decode page) (W.Store.memory m.old) reserve.old result.0 result.1 (W.Store.memory m.new) reserve.new }
 {
     if page.len() <= K::node_cap() {
         store_page::<K::Node, W, M>(m, b, &page);

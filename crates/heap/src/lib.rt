@@ -1,4 +1,5 @@
 // A heap of 1,024 blocks of 64 words: memory of C's allocator, asked for block by block and owned by one value.
+#![tactic(auto)]
 ghost use Rattle.std.specs.Prelude.{◌≡◌, ℕ, ◌+◌, ◌<◌, List, slice_index};
 ghost use Rattle.things.specs.Ground.{AtStart};
 ghost use Rattle.heap.specs.Owned.{owned, held, ground_of};

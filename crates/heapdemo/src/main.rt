@@ -1,4 +1,5 @@
 // Takes a word through a block of a heap, and says what came out.
+#![tactic(auto)]
 use heaptour::carry;
 
 fn main(rt: HostRuntime) -> Result<(), std::io::Error> {

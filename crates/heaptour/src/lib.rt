@@ -1,4 +1,5 @@
 // A word goes through a block of a heap: the block is got, written, read and given back, and the heap is let go.
+#![tactic(auto)]
 ghost use Rattle.std.specs.Prelude.{◌≡◌, ◌<◌, true, false, Some, None};
 ghost use Rattle.things.specs.Ground.{AtStart};
 ghost use Rattle.heap.specs.Owned.{held};

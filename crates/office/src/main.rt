@@ -1,4 +1,5 @@
 // The office: a script on standard input, over 1,024 blocks in memory that it lends.
+#![tactic(auto)]
 ghost use Rattle.things.specs.Ground.{AtStart};
 
 use console::play;

@@ -1,4 +1,5 @@
 // The office over blocks of C's allocator.
+#![tactic(auto)]
 use console::play;
 use heap::Heap;
 

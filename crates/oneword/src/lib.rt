@@ -1,5 +1,6 @@
 // The smallest value that owns memory: one word behind a raw pointer, written and read.
 // Its two proofs are the ones to read first: docs/PROOFS-BY-HAND.md.
+#![tactic(auto)]
 ghost use Rattle.std.specs.Prelude.{◌≡◌, ℕ};
 ghost use Rattle.std.specs.Borrow.{full_share, u64};
 ghost use Rattle.std.specs.Ptr.{lies_at};

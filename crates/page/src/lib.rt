@@ -1,5 +1,6 @@
 // Pages: entries in order, as they lie in the 64 words of a block.
 #![tactic(auto)]
+
 pub mod child;
 pub mod codec;
 pub mod entry;

@@ -20,13 +20,13 @@ fn takes(count: u64, rest: u64, gap: bool) -> bool
 
 // The child of the node at block b that an item is under, or a gap between items: counts are read until it is found.
 pub fn choose_child<K: Kind, W: Store<M>, M>(m: &mut M, b: u32, at: u64, gap: bool) -> Step
-    requires asks { page_asks ≤ (memory m.old).left }
-    requires there { Stored (memory m.old).block b }
-    requires few { length (K.Kind.layout.children ((memory m.old).block b)) ≤ K.Kind.layout.node_cap }
-    requires some { 0 < length (K.Kind.layout.children ((memory m.old).block b)) }
-    requires inside { at < counts (K.Kind.layout.children ((memory m.old).block b)) + more gap }
-    ensures chosen { Chosen (K.Kind.layout.children ((memory m.old).block b)) at gap result }
-    ensures same { Reading page_asks (memory m.old) (memory m.new) }
+    requires asks { page_asks ≤ (W.Store.memory m.old).left }
+    requires there { Stored (W.Store.memory m.old).block b }
+    requires few { length (K.Kind.layout.children ((W.Store.memory m.old).block b)) ≤ K.Kind.layout.node_cap }
+    requires some { 0 < length (K.Kind.layout.children ((W.Store.memory m.old).block b)) }
+    requires inside { at < counts (K.Kind.layout.children ((W.Store.memory m.old).block b)) + more gap }
+    ensures chosen { Chosen (K.Kind.layout.children ((W.Store.memory m.old).block b)) at gap result }
+    ensures same { Reading page_asks (W.Store.memory m.old) (W.Store.memory m.new) }
 {
     let entries = number_of_children::<K, W, M>(m, b);
     let mut rest = at;

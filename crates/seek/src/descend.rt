@@ -23,11 +23,11 @@ fn run_on(run: u32, n: usize, most: usize) -> u32
 
 // To the item at `at`, or with `gap` to where an item comes that is to have `at` items before it.
 pub fn descend<K: Kind, W: Store<M>, M>(m: &mut M, t: Tree, at: u64, gap: bool) -> Reached
-    requires lies { Lies K.Kind.layout (memory m.old) t }
+    requires lies { Lies K.Kind.layout (W.Store.memory m.old) t }
     requires tall { 0 < t.height }
-    requires there { at < length (holds K.Kind.layout (memory m.old).block t) + more gap }
-    requires asks { descend_asks ≤ (memory m.old).left }
-    ensures { Descended K.Kind.layout (memory m.old) t at gap result (memory m.new) }
+    requires there { at < length (holds K.Kind.layout (W.Store.memory m.old).block t) + more gap }
+    requires asks { descend_asks ≤ (W.Store.memory m.old).left }
+    ensures { Descended K.Kind.layout (W.Store.memory m.old) t at gap result (W.Store.memory m.new) }
 {
     let mut path = Path::new();
     let mut b = t.root;

@@ -13,12 +13,12 @@ use tree::top::Tree;
 
 // How many items are under the children of the node at block b: the count of each is read, and nothing else.
 fn total<K: Kind, W: Store<M>, M>(m: &mut M, b: u32) -> u64
-    requires asks { page_asks ≤ (memory m.old).left }
-    requires there { Stored (memory m.old).block b }
-    requires few { length (K.Kind.layout.children ((memory m.old).block b)) ≤ K.Kind.layout.node_cap }
-    requires low { counts (K.Kind.layout.children ((memory m.old).block b)) < 2 ^ 64 }
-    ensures value { result ≡ counts (K.Kind.layout.children ((memory m.old).block b)) }
-    ensures same { Reading page_asks (memory m.old) (memory m.new) }
+    requires asks { page_asks ≤ (W.Store.memory m.old).left }
+    requires there { Stored (W.Store.memory m.old).block b }
+    requires few { length (K.Kind.layout.children ((W.Store.memory m.old).block b)) ≤ K.Kind.layout.node_cap }
+    requires low { counts (K.Kind.layout.children ((W.Store.memory m.old).block b)) < 2 ^ 64 }
+    ensures value { result ≡ counts (K.Kind.layout.children ((W.Store.memory m.old).block b)) }
+    ensures same { Reading page_asks (W.Store.memory m.old) (W.Store.memory m.new) }
 {
     let children = number_of_children::<K, W, M>(m, b);
     let mut sum = 0;
@@ -29,10 +29,10 @@ fn total<K: Kind, W: Store<M>, M>(m: &mut M, b: u32) -> u64
 }
 
 pub fn length<K: Kind, W: Store<M>, M>(m: &mut M, t: Tree) -> u64
-    requires lies { Lies K.Kind.layout (memory m.old) t }
-    requires asks { length_asks ≤ (memory m.old).left }
-    ensures value { result ≡ length (holds K.Kind.layout (memory m.old).block t) }
-    ensures same { Reading length_asks (memory m.old) (memory m.new) }
+    requires lies { Lies K.Kind.layout (W.Store.memory m.old) t }
+    requires asks { length_asks ≤ (W.Store.memory m.old).left }
+    ensures value { result ≡ length (holds K.Kind.layout (W.Store.memory m.old).block t) }
+    ensures same { Reading length_asks (W.Store.memory m.old) (W.Store.memory m.new) }
 {
     if t.height == 0 {
         return 0;

@@ -16,8 +16,8 @@ const ENTRIES: u32 = 0;
 
 // How many entries the page at block b has.
 pub fn number_of_entries<W: Store<M>, M>(m: &mut M, b: u32) -> u64
-    requires { (0 < (memory m.old).left) × (Stored (memory m.old).block b) }
-    ensures { (result ≡ slice_index ((memory m.old).block b) 0) × (memory m.new ≡ asked 1 (memory m.old)) }
+    requires { (0 < (W.Store.memory m.old).left) × (Stored (W.Store.memory m.old).block b) }
+    ensures { (result ≡ slice_index ((W.Store.memory m.old).block b) 0) × (W.Store.memory m.new ≡ asked 1 (W.Store.memory m.old)) }
 {
     W::get(m, b, ENTRIES)
 }
@@ -32,24 +32,24 @@ pub fn entry_word<C: Codec>(i: u32) -> u32
 
 // How many children the node at block b has.
 pub fn number_of_children<K: Kind, W: Store<M>, M>(m: &mut M, b: u32) -> u32
-    requires asks { 0 < (memory m.old).left }
-    requires there { Stored (memory m.old).block b }
-    requires few { length (K.Kind.layout.children ((memory m.old).block b)) ≤ K.Kind.layout.node_cap }
-    ensures value { result ≡ length (K.Kind.layout.children ((memory m.old).block b)) }
+    requires asks { 0 < (W.Store.memory m.old).left }
+    requires there { Stored (W.Store.memory m.old).block b }
+    requires few { length (K.Kind.layout.children ((W.Store.memory m.old).block b)) ≤ K.Kind.layout.node_cap }
+    ensures value { result ≡ length (K.Kind.layout.children ((W.Store.memory m.old).block b)) }
     ensures small { result ≤ 62 }
-    ensures same { memory m.new ≡ asked 1 (memory m.old) }
+    ensures same { W.Store.memory m.new ≡ asked 1 (W.Store.memory m.old) }
 {
     number_of_entries::<W, M>(m, b) as u32
 }
 
 // How many items are under child i of the node at block b.
 pub fn child_count<K: Kind, W: Store<M>, M>(m: &mut M, b: u32, i: u32) -> u64
-    requires asks { 0 < (memory m.old).left }
-    requires there { Stored (memory m.old).block b }
-    requires few { length (K.Kind.layout.children ((memory m.old).block b)) ≤ K.Kind.layout.node_cap }
-    requires inside { i < length (K.Kind.layout.children ((memory m.old).block b)) }
-    ensures value { result ≡ (slice_index_or (K.Kind.layout.children ((memory m.old).block b)) i none).count }
-    ensures same { memory m.new ≡ asked 1 (memory m.old) }
+    requires asks { 0 < (W.Store.memory m.old).left }
+    requires there { Stored (W.Store.memory m.old).block b }
+    requires few { length (K.Kind.layout.children ((W.Store.memory m.old).block b)) ≤ K.Kind.layout.node_cap }
+    requires inside { i < length (K.Kind.layout.children ((W.Store.memory m.old).block b)) }
+    ensures value { result ≡ (slice_index_or (K.Kind.layout.children ((W.Store.memory m.old).block b)) i none).count }
+    ensures same { W.Store.memory m.new ≡ asked 1 (W.Store.memory m.old) }
 {
     let word = entry_word::<K::Node>(i);
     W::get(m, b, word)
@@ -57,12 +57,12 @@ pub fn child_count<K: Kind, W: Store<M>, M>(m: &mut M, b: u32, i: u32) -> u64
 
 // The block of child i of the node at block b.
 pub fn child_block<K: Kind, W: Store<M>, M>(m: &mut M, b: u32, i: u32) -> u64
-    requires asks { 0 < (memory m.old).left }
-    requires there { Stored (memory m.old).block b }
-    requires few { length (K.Kind.layout.children ((memory m.old).block b)) ≤ K.Kind.layout.node_cap }
-    requires inside { i < length (K.Kind.layout.children ((memory m.old).block b)) }
-    ensures value { result ≡ (slice_index_or (K.Kind.layout.children ((memory m.old).block b)) i none).block }
-    ensures same { memory m.new ≡ asked 1 (memory m.old) }
+    requires asks { 0 < (W.Store.memory m.old).left }
+    requires there { Stored (W.Store.memory m.old).block b }
+    requires few { length (K.Kind.layout.children ((W.Store.memory m.old).block b)) ≤ K.Kind.layout.node_cap }
+    requires inside { i < length (K.Kind.layout.children ((W.Store.memory m.old).block b)) }
+    ensures value { result ≡ (slice_index_or (K.Kind.layout.children ((W.Store.memory m.old).block b)) i none).block }
+    ensures same { W.Store.memory m.new ≡ asked 1 (W.Store.memory m.old) }
 {
     let word = entry_word::<K::Node>(i);
     W::get(m, b, word + 1)

@@ -24,11 +24,11 @@ fn keep_or_release<C: Codec, W: Store<M>, M>(
     page: Page<C>,
     merged: bool,
 ) -> Option<Page<C>>
-    requires asks { page_asks ≤ (memory m.old).left }
-    requires there { Stored (memory m.old).block b }
+    requires asks { page_asks ≤ (W.Store.memory m.old).left }
+    requires there { Stored (W.Store.memory m.old).block b }
     requires fits { page.len * C.Codec.width ≤ 62 }
-    ensures released { merged ≡ true → (result ≡ None) × (memory m.new ≡ released b (memory m.old)) }
-    ensures kept { merged ≡ false → (result ≡ Some page) × Writing page_asks (imaged C.Codec.width C.Codec.decode) b (entries C.Codec.width C.Codec.decode page) (memory m.old) (memory m.new) }
+    ensures released { merged ≡ true → (result ≡ None) × (W.Store.memory m.new ≡ released b (W.Store.memory m.old)) }
+    ensures kept { merged ≡ false → (result ≡ Some page) × Writing page_asks (imaged C.Codec.width C.Codec.decode) b (entries C.Codec.width C.Codec.decode page) (W.Store.memory m.old) (W.Store.memory m.new) }
 {
     if merged {
         W::release(m, b);
@@ -45,15 +45,15 @@ fn even<C: Codec, W: Store<M>, M>(
     b: u32,
     most: usize,
 ) -> (Page<C>, Option<Page<C>>)
-    requires asks { share_asks ≤ (memory m.old).left }
-    requires left { Stored (memory m.old).block a }
-    requires right { Stored (memory m.old).block b }
+    requires asks { share_asks ≤ (W.Store.memory m.old).left }
+    requires left { Stored (W.Store.memory m.old).block a }
+    requires right { Stored (W.Store.memory m.old).block b }
     requires apart { a ≢ b }
-    requires left_few { slice_index ((memory m.old).block a) 0 ≤ most }
-    requires right_few { slice_index ((memory m.old).block b) 0 ≤ most }
+    requires left_few { slice_index ((W.Store.memory m.old).block a) 0 ≤ most }
+    requires right_few { slice_index ((W.Store.memory m.old).block b) 0 ≤ most }
     requires room { most * C.Codec.width ≤ 62 }
-    requires held { 0 < (memory m.old).many }
-    ensures { MatchOption result.1 (InOne (imaged C.Codec.width C.Codec.decode) share_asks most a b (memory m.old) (entries C.Codec.width C.Codec.decode result.0) (memory m.new)) (λ right. InTwo (imaged C.Codec.width C.Codec.decode) share_asks most a b (memory m.old) (entries C.Codec.width C.Codec.decode result.0) (entries C.Codec.width C.Codec.decode right) (memory m.new)) }
+    requires held { 0 < (W.Store.memory m.old).many }
+    ensures { MatchOption result.1 (InOne (imaged C.Codec.width C.Codec.decode) share_asks most a b (W.Store.memory m.old) (entries C.Codec.width C.Codec.decode result.0) (W.Store.memory m.new)) (λ right. InTwo (imaged C.Codec.width C.Codec.decode) share_asks most a b (W.Store.memory m.old) (entries C.Codec.width C.Codec.decode result.0) (entries C.Codec.width C.Codec.decode right) (W.Store.memory m.new)) }
 {
     let mut left = load_page::<C, W, M>(m, a);
     let mut right = load_page::<C, W, M>(m, b);
@@ -65,9 +65,9 @@ fn even<C: Codec, W: Store<M>, M>(
 
 // Of leaves: what stands above them then.
 fn share_leaves<K: Kind, W: Store<M>, M>(m: &mut M, a: u32, b: u32) -> (Child, Option<Child>)
-    requires asks { share_asks ≤ (memory m.old).left }
-    requires neighbours { Neighbours K.Kind.layout 0 a b (memory m.old) }
-    ensures { Shared K.Kind.layout share_asks 0 a b (memory m.old) (one_or_two result.0 result.1) (memory m.new) }
+    requires asks { share_asks ≤ (W.Store.memory m.old).left }
+    requires neighbours { Neighbours K.Kind.layout 0 a b (W.Store.memory m.old) }
+    ensures { Shared K.Kind.layout share_asks 0 a b (W.Store.memory m.old) (one_or_two result.0 result.1) (W.Store.memory m.new) }
 {
     let (left, right) = even::<K::Leaf, W, M>(m, a, b, K::leaf_cap());
     let one = leaf_entry::<K>(a as u64, &left);
@@ -79,9 +79,9 @@ fn share_leaves<K: Kind, W: Store<M>, M>(m: &mut M, a: u32, b: u32) -> (Child, O
 
 // Of nodes.
 fn share_nodes<K: Kind, W: Store<M>, M>(m: &mut M, a: u32, b: u32) -> (Child, Option<Child>)
-    requires asks { share_asks ≤ (memory m.old).left }
-    requires neighbours { (h : ℕ) × Neighbours K.Kind.layout (suc h) a b (memory m.old) }
-    ensures { (h : ℕ) → Neighbours K.Kind.layout (suc h) a b (memory m.old) → Shared K.Kind.layout share_asks (suc h) a b (memory m.old) (one_or_two result.0 result.1) (memory m.new) }
+    requires asks { share_asks ≤ (W.Store.memory m.old).left }
+    requires neighbours { (h : ℕ) × Neighbours K.Kind.layout (suc h) a b (W.Store.memory m.old) }
+    ensures { (h : ℕ) → Neighbours K.Kind.layout (suc h) a b (W.Store.memory m.old) → Shared K.Kind.layout share_asks (suc h) a b (W.Store.memory m.old) (one_or_two result.0 result.1) (W.Store.memory m.new) }
 {
     let (left, right) = even::<K::Node, W, M>(m, a, b, K::node_cap());
     let one = node_entry::<K>(a as u64, &left);
@@ -98,9 +98,9 @@ pub fn share<K: Kind, W: Store<M>, M>(
     a: u32,
     b: u32,
 ) -> (Child, Option<Child>)
-    requires asks { share_asks ≤ (memory m.old).left }
-    requires next { (h : ℕ) × Next K.Kind.layout leaves h a b (memory m.old) }
-    ensures { (h : ℕ) → Next K.Kind.layout leaves h a b (memory m.old) → Shared K.Kind.layout share_asks h a b (memory m.old) (one_or_two result.0 result.1) (memory m.new) }
+    requires asks { share_asks ≤ (W.Store.memory m.old).left }
+    requires next { (h : ℕ) × Next K.Kind.layout leaves h a b (W.Store.memory m.old) }
+    ensures { (h : ℕ) → Next K.Kind.layout leaves h a b (W.Store.memory m.old) → Shared K.Kind.layout share_asks h a b (W.Store.memory m.old) (one_or_two result.0 result.1) (W.Store.memory m.new) }
 {
     if leaves {
         return share_leaves::<K, W, M>(m, a, b);

@@ -15,8 +15,8 @@ use tree::top::Tree;
 // A leaf alone.
 fn trim_leaf<K: Kind, W: Store<M>, M>(m: &mut M, t: Tree) -> Tree
     requires height { t.height ≡ 1 }
-    requires top { (z : Start K.Item) × Topmost K.Kind.layout z t (memory m.old) None }
-    ensures { (z : Start K.Item) → Topmost K.Kind.layout z t (memory m.old) None → Trimmed K.Kind.layout z result.height result.root (memory m.new) }
+    requires top { (z : Start K.Item) × Topmost K.Kind.layout z t (W.Store.memory m.old) None }
+    ensures { (z : Start K.Item) → Topmost K.Kind.layout z t (W.Store.memory m.old) None → Trimmed K.Kind.layout z result.height result.root (W.Store.memory m.new) }
 {
     if W::get(m, t.root, 0) > 0 {
         return t;
@@ -42,8 +42,8 @@ fn only_child<K: Kind>(t: Tree, page: &Page<K::Node>) -> Tree
 // A node.
 fn trim_node<K: Kind, W: Store<M>, M>(m: &mut M, t: Tree) -> Tree
     requires height { 2 ≤ t.height }
-    requires top { (z : Start K.Item) × Topmost K.Kind.layout z t (memory m.old) None }
-    ensures { (z : Start K.Item) → Topmost K.Kind.layout z t (memory m.old) None → Trimmed K.Kind.layout z result.height result.root (memory m.new) }
+    requires top { (z : Start K.Item) × Topmost K.Kind.layout z t (W.Store.memory m.old) None }
+    ensures { (z : Start K.Item) → Topmost K.Kind.layout z t (W.Store.memory m.old) None → Trimmed K.Kind.layout z result.height result.root (W.Store.memory m.new) }
 {
     let page = load_node::<K, W, M>(m, t.root);
     if page.len() > 1 {
@@ -55,8 +55,8 @@ fn trim_node<K: Kind, W: Store<M>, M>(m: &mut M, t: Tree) -> Tree
 
 // A root that is full enough for a page below others stays.
 pub fn trim<K: Kind, W: Store<M>, M>(m: &mut M, t: Tree, risen: Option<Child>) -> Tree
-    requires { (z : Start K.Item) × Topmost K.Kind.layout z t (memory m.old) risen }
-    ensures { (z : Start K.Item) → Topmost K.Kind.layout z t (memory m.old) risen → Trimmed K.Kind.layout z result.height result.root (memory m.new) }
+    requires { (z : Start K.Item) × Topmost K.Kind.layout z t (W.Store.memory m.old) risen }
+    ensures { (z : Start K.Item) → Topmost K.Kind.layout z t (W.Store.memory m.old) risen → Trimmed K.Kind.layout z result.height result.root (W.Store.memory m.new) }
 {
     match risen {
         Some(_) => t,

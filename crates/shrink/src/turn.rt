@@ -31,10 +31,10 @@ fn replace_two<K: Kind>(page: &mut Page<K::Node>, at: usize, one: Child, two: Op
 
 // The children at `at` and behind it share their entries, and the page has what stands above them then.
 fn mend<K: Kind, W: Store<M>, M>(m: &mut M, leaves: bool, page: &mut Page<K::Node>, at: usize)
-    requires asks { share_asks ≤ (memory m.old).left }
+    requires asks { share_asks ≤ (W.Store.memory m.old).left }
     requires there { at + 1 < page.old.len }
-    requires next { (h : ℕ) × Next K.Kind.layout leaves h (slice_index_or (entries K.Node.Codec.width K.Node.Codec.decode page.old) at none).block (slice_index_or (entries K.Node.Codec.width K.Node.Codec.decode page.old) (suc at) none).block (memory m.old) }
-    ensures { (h : ℕ) → Next K.Kind.layout leaves h (slice_index_or (entries K.Node.Codec.width K.Node.Codec.decode page.old) at none).block (slice_index_or (entries K.Node.Codec.width K.Node.Codec.decode page.old) (suc at) none).block (memory m.old) → Mended K.Kind.layout h at (entries K.Node.Codec.width K.Node.Codec.decode page.old) (memory m.old) (entries K.Node.Codec.width K.Node.Codec.decode page.new) (memory m.new) }
+    requires next { (h : ℕ) × Next K.Kind.layout leaves h (slice_index_or (entries K.Node.Codec.width K.Node.Codec.decode page.old) at none).block (slice_index_or (entries K.Node.Codec.width K.Node.Codec.decode page.old) (suc at) none).block (W.Store.memory m.old) }
+    ensures { (h : ℕ) → Next K.Kind.layout leaves h (slice_index_or (entries K.Node.Codec.width K.Node.Codec.decode page.old) at none).block (slice_index_or (entries K.Node.Codec.width K.Node.Codec.decode page.old) (suc at) none).block (W.Store.memory m.old) → Mended K.Kind.layout h at (entries K.Node.Codec.width K.Node.Codec.decode page.old) (W.Store.memory m.old) (entries K.Node.Codec.width K.Node.Codec.decode page.new) (W.Store.memory m.new) }
 {
     let a = page.get(at).block as u32;
     let b = page.get(at + 1).block as u32;
@@ -66,8 +66,8 @@ fn put_right<K: Kind, W: Store<M>, M>(
     place: u32,
     risen: Option<Child>,
 ) -> Page<K::Node>
-    requires { (s : Site K.Item) × Below K.Kind.layout s leaves block place (memory m.old) risen }
-    ensures { (s : Site K.Item) → Below K.Kind.layout s leaves block place (memory m.old) risen → Ready K.Kind.layout s.start s.level block s.above (memory m.new) (entries K.Node.Codec.width K.Node.Codec.decode result) }
+    requires { (s : Site K.Item) × Below K.Kind.layout s leaves block place (W.Store.memory m.old) risen }
+    ensures { (s : Site K.Item) → Below K.Kind.layout s leaves block place (W.Store.memory m.old) risen → Ready K.Kind.layout s.start s.level block s.above (W.Store.memory m.new) (entries K.Node.Codec.width K.Node.Codec.decode result) }
 {
     let mut page = load_node::<K, W, M>(m, block);
     match risen {
@@ -90,8 +90,8 @@ pub fn turn<K: Kind, W: Store<M>, M>(
     place: u32,
     risen: Option<Child>,
 ) -> Option<Child>
-    requires { (s : Site K.Item) × Below K.Kind.layout s leaves block place (memory m.old) risen }
-    ensures { (s : Site K.Item) → Below K.Kind.layout s leaves block place (memory m.old) risen → Climbing K.Kind.layout s.start (suc s.level) s.above (memory m.new) result }
+    requires { (s : Site K.Item) × Below K.Kind.layout s leaves block place (W.Store.memory m.old) risen }
+    ensures { (s : Site K.Item) → Below K.Kind.layout s leaves block place (W.Store.memory m.old) risen → Climbing K.Kind.layout s.start (suc s.level) s.above (W.Store.memory m.new) result }
 {
     let page = put_right::<K, W, M>(m, leaves, block, place, risen);
     put_node::<K, W, M>(m, block, &page)

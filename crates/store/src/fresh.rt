@@ -28,8 +28,8 @@ impl Fresh {
 
     // None: the memory refused.
     pub fn obtain<W: Store<M>, M>(m: &mut M) -> Option<Fresh>
-        requires { (0 < (memory m.old).left) × ((memory m.old).many < (memory m.old).top) }
-        ensures { MatchOption result (memory m.new ≡ refused (memory m.old)) (λ f. Obtained (memory m.old) f.number (memory m.new)) }
+        requires { (0 < (W.Store.memory m.old).left) × ((W.Store.memory m.old).many < (W.Store.memory m.old).top) }
+        ensures { MatchOption result (W.Store.memory m.new ≡ refused (W.Store.memory m.old)) (λ f. Obtained (W.Store.memory m.old) f.number (W.Store.memory m.new)) }
     {
         match W::obtain(m) {
             Some(number) => Some(Fresh::new(number)),
@@ -38,8 +38,8 @@ impl Fresh {
     }
 
     pub fn give_back<W: Store<M>, M>(self, m: &mut M)
-        requires { (0 < (memory m.old).left) × ((0 < (memory m.old).many) × (Stored (memory m.old).block self.number)) }
-        ensures { Returned (memory m.old) self.number (memory m.new) }
+        requires { (0 < (W.Store.memory m.old).left) × ((0 < (W.Store.memory m.old).many) × (Stored (W.Store.memory m.old).block self.number)) }
+        ensures { Returned (W.Store.memory m.old) self.number (W.Store.memory m.new) }
     {
         W::release(m, self.into_block());
     }

@@ -15,8 +15,8 @@ pub struct NoRoom {}
 
 // n blocks, or none: then all is as it was.
 pub fn reserve<W: Store<M>, M>(m: &mut M, n: usize) -> Result<Reserve, NoRoom>
-    requires { (n ≤ capacity) × ((2 * n ≤ (memory m.old).left) × ((memory m.old).many + n ≤ (memory m.old).top)) }
-    ensures { MatchResult result (λ s. Reserved n (memory m.old) s (memory m.new)) (λ _. Undone n (memory m.old) (memory m.new)) }
+    requires { (n ≤ capacity) × ((2 * n ≤ (W.Store.memory m.old).left) × ((W.Store.memory m.old).many + n ≤ (W.Store.memory m.old).top)) }
+    ensures { MatchResult result (λ s. Reserved n (W.Store.memory m.old) s (W.Store.memory m.new)) (λ _. Undone n (W.Store.memory m.old) (W.Store.memory m.new)) }
 {
     let mut got = Reserve::new();
     while got.len() < n {
@@ -30,8 +30,8 @@ pub fn reserve<W: Store<M>, M>(m: &mut M, n: usize) -> Result<Reserve, NoRoom>
 
 // What was got goes back.
 fn give_up<W: Store<M>, M>(got: Reserve, m: &mut M) -> NoRoom
-    requires { (got.count ≤ (memory m.old).left) × ((got.count ≤ (memory m.old).many) × (Stocked (uses got) (memory m.old).block)) }
-    ensures { GivenAll (memory m.old) got (memory m.new) }
+    requires { (got.count ≤ (W.Store.memory m.old).left) × ((got.count ≤ (W.Store.memory m.old).many) × (Stocked (uses got) (W.Store.memory m.old).block)) }
+    ensures { GivenAll (W.Store.memory m.old) got (W.Store.memory m.new) }
 {
     give_all::<W, M>(got, m);
     NoRoom {}
@@ -39,8 +39,8 @@ fn give_up<W: Store<M>, M>(got: Reserve, m: &mut M) -> NoRoom
 
 // Every block of the reserve goes back to the memory.
 pub fn give_all<W: Store<M>, M>(mut rest: Reserve, m: &mut M)
-    requires { (rest.count ≤ (memory m.old).left) × ((rest.count ≤ (memory m.old).many) × (Stocked (uses rest) (memory m.old).block)) }
-    ensures { GivenAll (memory m.old) rest (memory m.new) }
+    requires { (rest.count ≤ (W.Store.memory m.old).left) × ((rest.count ≤ (W.Store.memory m.old).many) × (Stocked (uses rest) (W.Store.memory m.old).block)) }
+    ensures { GivenAll (W.Store.memory m.old) rest (W.Store.memory m.new) }
 {
     while rest.len() > 0 {
         give_one::<W, M>(&mut rest, m);
@@ -49,8 +49,8 @@ pub fn give_all<W: Store<M>, M>(mut rest: Reserve, m: &mut M)
 
 // One block goes back.
 fn give_one<W: Store<M>, M>(rest: &mut Reserve, m: &mut M)
-    requires { (0 < rest.old.count) × ((0 < (memory m.old).left) × ((0 < (memory m.old).many) × (Stocked (uses rest.old) (memory m.old).block))) }
-    ensures { (b : ℕ) × (Taken rest.old b rest.new × Returned (memory m.old) b (memory m.new)) }
+    requires { (0 < rest.old.count) × ((0 < (W.Store.memory m.old).left) × ((0 < (W.Store.memory m.old).many) × (Stocked (uses rest.old) (W.Store.memory m.old).block))) }
+    ensures { (b : ℕ) × (Taken rest.old b rest.new × Returned (W.Store.memory m.old) b (W.Store.memory m.new)) }
 {
     let f = rest.take();
     f.give_back::<W, M>(m);

@@ -1,4 +1,6 @@
 // Block memory as the trees see it.
+#![tactic(auto)]
+
 ghost use Rattle.std.specs.Prelude.{◌≡◌, ◌<◌, MatchOption, slice_index};
 ghost use Rattle.store.specs.Memory.{Memory, Stored, Got, asked, written, released, refused};
 

@@ -13,9 +13,9 @@ use page::{Rows, Tables};
 
 // Every block of what is in a slot goes back.
 fn give_slot<B: Blocks>(b: &mut B, x: Slot)
-    requires lies { SlotLies (memory_of (as_ground b.old)) x }
-    requires asks { give_asks * slot_blocks (as_ground b.old).block x ≤ (as_ground b.old).left }
-    ensures { Ran (give_asks * slot_blocks (as_ground b.old).block x) (slot_uses (as_ground b.old).block x) (λ c. 0) (memory_of (as_ground b.old)) (memory_of (as_ground b.new)) }
+    requires lies { SlotLies (memory_of (B.Blocks.as_ground b.old)) x }
+    requires asks { give_asks * slot_blocks (B.Blocks.as_ground b.old).block x ≤ (B.Blocks.as_ground b.old).left }
+    ensures { Ran (give_asks * slot_blocks (B.Blocks.as_ground b.old).block x) (slot_uses (B.Blocks.as_ground b.old).block x) (λ c. 0) (memory_of (B.Blocks.as_ground b.old)) (memory_of (B.Blocks.as_ground b.new)) }
 {
     match x {
         Slot::Nothing => {}
@@ -28,9 +28,9 @@ impl Things {
     // Nothing is under n any more.
     pub(crate) fn clear<B: Blocks>(&mut self, b: &mut B, n: u32)
         requires low { n < 256 }
-        requires sound { Sound self.old (as_ground b.old).block (as_ground b.old).many }
-        requires asks { give_asks * (as_ground b.old).many ≤ (as_ground b.old).left }
-        ensures { Cleared n self.old (as_ground b.old) self.new (as_ground b.new) }
+        requires sound { Sound self.old (B.Blocks.as_ground b.old).block (B.Blocks.as_ground b.old).many }
+        requires asks { give_asks * (B.Blocks.as_ground b.old).many ≤ (B.Blocks.as_ground b.old).left }
+        ensures { Cleared n self.old (B.Blocks.as_ground b.old) self.new (B.Blocks.as_ground b.new) }
     {
         give_slot(b, self.peek(n));
         self.lay(n, Slot::Nothing);

@@ -13,12 +13,12 @@ use store::words::{load, store};
 
 // The page at block b: only the words that it uses are read.
 pub fn load_page<C: Codec, W: Store<M>, M>(m: &mut M, b: u32) -> Page<C>
-    requires asks { page_asks ≤ (memory m.old).left }
-    requires there { Stored (memory m.old).block b }
-    requires fits { slice_index ((memory m.old).block b) 0 * C.Codec.width ≤ 62 }
-    ensures after { entries C.Codec.width C.Codec.decode result ≡ imaged C.Codec.width C.Codec.decode ((memory m.old).block b) }
-    ensures len { result.len ≡ slice_index ((memory m.old).block b) 0 }
-    ensures same { Reading page_asks (memory m.old) (memory m.new) }
+    requires asks { page_asks ≤ (W.Store.memory m.old).left }
+    requires there { Stored (W.Store.memory m.old).block b }
+    requires fits { slice_index ((W.Store.memory m.old).block b) 0 * C.Codec.width ≤ 62 }
+    ensures after { entries C.Codec.width C.Codec.decode result ≡ imaged C.Codec.width C.Codec.decode ((W.Store.memory m.old).block b) }
+    ensures len { result.len ≡ slice_index ((W.Store.memory m.old).block b) 0 }
+    ensures same { Reading page_asks (W.Store.memory m.old) (W.Store.memory m.new) }
 {
     let n = W::get(m, b, 0) as u32;
     let image = load::<W, M>(m, b, 2 + n * C::width() as u32);
@@ -27,10 +27,10 @@ pub fn load_page<C: Codec, W: Store<M>, M>(m: &mut M, b: u32) -> Page<C>
 
 // The page goes to block b: only the words that it uses are written.
 pub fn store_page<C: Codec, W: Store<M>, M>(m: &mut M, b: u32, page: &Page<C>)
-    requires asks { page_asks ≤ (memory m.old).left }
-    requires there { Stored (memory m.old).block b }
+    requires asks { page_asks ≤ (W.Store.memory m.old).left }
+    requires there { Stored (W.Store.memory m.old).block b }
     requires fits { page.now.len * C.Codec.width ≤ 62 }
-    ensures { Writing page_asks (imaged C.Codec.width C.Codec.decode) b (entries C.Codec.width C.Codec.decode page.now) (memory m.old) (memory m.new) }
+    ensures { Writing page_asks (imaged C.Codec.width C.Codec.decode) b (entries C.Codec.width C.Codec.decode page.now) (W.Store.memory m.old) (W.Store.memory m.new) }
 {
     let mut image = [0; 64];
     page.pack(&mut image);

@@ -13,8 +13,8 @@ use seek::size;
 impl Things {
     // Nothing is under n.
     pub(crate) fn free<B: Blocks>(&mut self, b: &mut B, n: u32) -> Result<(), Reason>
-        requires { Ready (16384 + 128 * (as_ground b.old).many) 0 self.old (as_ground b.old) }
-        ensures { Served (Op.Free n) self.old (as_ground b.old) (told_done result) self.new (as_ground b.new) }
+        requires { Ready (16384 + 128 * (B.Blocks.as_ground b.old).many) 0 self.old (B.Blocks.as_ground b.old) }
+        ensures { Served (Op.Free n) self.old (B.Blocks.as_ground b.old) (told_done result) self.new (B.Blocks.as_ground b.new) }
     {
         self.find(n)?;
         self.clear(b, n);
@@ -23,8 +23,8 @@ impl Things {
 
     // How many words, or pairs.
     pub(crate) fn length<B: Blocks>(&mut self, b: &mut B, n: u32) -> Result<u64, Reason>
-        requires { Ready 16384 64 self.old (as_ground b.old) }
-        ensures { Served (Op.Length n) self.old (as_ground b.old) (told_word result) self.new (as_ground b.new) }
+        requires { Ready 16384 64 self.old (B.Blocks.as_ground b.old) }
+        ensures { Served (Op.Length n) self.old (B.Blocks.as_ground b.old) (told_word result) self.new (B.Blocks.as_ground b.new) }
     {
         match self.find(n)? {
             Slot::Nothing => Err(Reason::Absent),

@@ -13,8 +13,8 @@ use seek::{items, size};
 impl Things {
     // An empty row under n.
     pub(crate) fn row<B: Blocks>(&mut self, b: &mut B, n: u32) -> Result<(), Reason>
-        requires { Ready 16384 64 self.old (as_ground b.old) }
-        ensures { Served (Op.Row n) self.old (as_ground b.old) (told_done result) self.new (as_ground b.new) }
+        requires { Ready 16384 64 self.old (B.Blocks.as_ground b.old) }
+        ensures { Served (Op.Row n) self.old (B.Blocks.as_ground b.old) (told_done result) self.new (B.Blocks.as_ground b.new) }
     {
         self.find_vacant(n)?;
         self.lay(n, Slot::Row(EMPTY));
@@ -23,8 +23,8 @@ impl Things {
 
     // The word at i.
     pub(crate) fn at<B: Blocks>(&mut self, b: &mut B, n: u32, i: u64) -> Result<u64, Reason>
-        requires { Ready 16384 64 self.old (as_ground b.old) }
-        ensures { Served (Op.At n i) self.old (as_ground b.old) (told_word result) self.new (as_ground b.new) }
+        requires { Ready 16384 64 self.old (B.Blocks.as_ground b.old) }
+        ensures { Served (Op.At n i) self.old (B.Blocks.as_ground b.old) (told_word result) self.new (B.Blocks.as_ground b.new) }
     {
         let t = self.find_row(n)?;
         if i >= size::length::<Rows, Ours, B>(b, t) {
@@ -35,8 +35,8 @@ impl Things {
 
     // The word at i is x.
     pub(crate) fn set<B: Blocks>(&mut self, b: &mut B, n: u32, i: u64, x: u64) -> Result<(), Reason>
-        requires { Ready 16384 64 self.old (as_ground b.old) }
-        ensures { Served (Op.Set n i x) self.old (as_ground b.old) (told_done result) self.new (as_ground b.new) }
+        requires { Ready 16384 64 self.old (B.Blocks.as_ground b.old) }
+        ensures { Served (Op.Set n i x) self.old (B.Blocks.as_ground b.old) (told_done result) self.new (B.Blocks.as_ground b.new) }
     {
         let t = self.find_row(n)?;
         if i >= size::length::<Rows, Ours, B>(b, t) {
@@ -54,8 +54,8 @@ impl Things {
         i: u64,
         x: u64,
     ) -> Result<(), Reason>
-        requires { Ready 16384 64 self.old (as_ground b.old) }
-        ensures { Served (Op.Insert n i x) self.old (as_ground b.old) (told_done result) self.new (as_ground b.new) }
+        requires { Ready 16384 64 self.old (B.Blocks.as_ground b.old) }
+        ensures { Served (Op.Insert n i x) self.old (B.Blocks.as_ground b.old) (told_done result) self.new (B.Blocks.as_ground b.new) }
     {
         let t = self.find_row(n)?;
         if i > size::length::<Rows, Ours, B>(b, t) {
@@ -72,8 +72,8 @@ impl Things {
 
     // The word at i goes, and is told; what stood behind it is one nearer.
     pub(crate) fn delete<B: Blocks>(&mut self, b: &mut B, n: u32, i: u64) -> Result<u64, Reason>
-        requires { Ready 16384 64 self.old (as_ground b.old) }
-        ensures { Served (Op.Delete n i) self.old (as_ground b.old) (told_word result) self.new (as_ground b.new) }
+        requires { Ready 16384 64 self.old (B.Blocks.as_ground b.old) }
+        ensures { Served (Op.Delete n i) self.old (B.Blocks.as_ground b.old) (told_word result) self.new (B.Blocks.as_ground b.new) }
     {
         let t = self.find_row(n)?;
         if i >= size::length::<Rows, Ours, B>(b, t) {
@@ -92,16 +92,16 @@ impl Things {
         i: u64,
         m: u32,
     ) -> Result<(), Reason>
-        requires { Ready 16384 64 self.old (as_ground b.old) }
-        ensures { Served (Op.Split n i m) self.old (as_ground b.old) (told_done result) self.new (as_ground b.new) }
+        requires { Ready 16384 64 self.old (B.Blocks.as_ground b.old) }
+        ensures { Served (Op.Split n i m) self.old (B.Blocks.as_ground b.old) (told_done result) self.new (B.Blocks.as_ground b.new) }
     {
         Err(Reason::NotBuilt)
     }
 
     // m's words stand behind n's; nothing is under m.
     pub(crate) fn join<B: Blocks>(&mut self, b: &mut B, n: u32, m: u32) -> Result<(), Reason>
-        requires { Ready 16384 64 self.old (as_ground b.old) }
-        ensures { Served (Op.Join n m) self.old (as_ground b.old) (told_done result) self.new (as_ground b.new) }
+        requires { Ready 16384 64 self.old (B.Blocks.as_ground b.old) }
+        ensures { Served (Op.Join n m) self.old (B.Blocks.as_ground b.old) (told_done result) self.new (B.Blocks.as_ground b.new) }
     {
         Err(Reason::NotBuilt)
     }

@@ -23,8 +23,8 @@ loop-at-init g c =
     begins (task g c.requires.lies c.requires.asks) c.requires.tall
     (c.push.ensures ∙ ap (λ (ws : List Branch). record { block = c.args.t.root; place = 0 } ∷ ws) c.new-stack.ensures)
 
-pub next-child-requires : goal.next-child-requires
-next-child-requires g c = record {
+pub next_child-requires : goal.next_child-requires
+next_child-requires g c = record {
   asks = asks_of_turn (task g c.requires.lies c.requires.asks) c.loop-at.invariant c.in-Some.ensures;
   there = turn_stored (task g c.requires.lies c.requires.asks) c.loop-at.invariant c.in-Some.ensures;
   readable = turn_readable (task g c.requires.lies c.requires.asks) c.loop-at.invariant c.in-Some.ensures;
@@ -32,25 +32,25 @@ next-child-requires g c = record {
 
 pub overflow-add-at : goal.overflow-add-at
 overflow-add-at g c =
-    let l = next_place (task g c.requires.lies c.requires.asks) c.loop-at.invariant c.in-Some.ensures c.in-Some-next-child.ensures in
+    let l = next_place (task g c.requires.lies c.requires.asks) c.loop-at.invariant c.in-Some.ensures c.in-Some-next_child.ensures in
     search rules
 
-pub push-requires-in-Some-next-child : goal.push-requires-in-Some-next-child
-push-requires-in-Some-next-child g c =
+pub push-requires-in-Some-next_child : goal.push-requires-in-Some-next_child
+push-requires-in-Some-next_child g c =
     omega (arith, turn_room (task g c.requires.lies c.requires.asks) c.loop-at.invariant c.in-Some.ensures)
 
-pub go-down-requires : goal.go-down-requires
-go-down-requires g c =
-    let z = next_held (task g c.requires.lies c.requires.asks) c.loop-at.invariant c.in-Some.ensures c.in-Some-next-child.ensures in
+pub go_down-requires : goal.go_down-requires
+go_down-requires g c =
+    let z = next_held (task g c.requires.lies c.requires.asks) c.loop-at.invariant c.in-Some.ensures c.in-Some-next_child.ensures in
     record { asks = z.0; there = z.1; room = omega (arith, low (task g c.requires.lies c.requires.asks)) }
 
-pub loop-at-smaller-in-Some-next-child : goal.loop-at-smaller-in-Some-next-child
-loop-at-smaller-in-Some-next-child g c =
-    next_less (task g c.requires.lies c.requires.asks) c.loop-at.invariant c.in-Some.ensures c.in-Some-next-child.ensures c.push-in-Some-next-child.ensures c.go-down.ensures
+pub loop-at-smaller-in-Some-next_child : goal.loop-at-smaller-in-Some-next_child
+loop-at-smaller-in-Some-next_child g c =
+    next_less (task g c.requires.lies c.requires.asks) c.loop-at.invariant c.in-Some.ensures c.in-Some-next_child.ensures c.push-in-Some-next_child.ensures c.go_down.ensures
 
-pub loop-at-preserved-in-Some-next-child : goal.loop-at-preserved-in-Some-next-child
-loop-at-preserved-in-Some-next-child g c =
-    next_going (task g c.requires.lies c.requires.asks) c.loop-at.invariant c.in-Some.ensures c.in-Some-next-child.ensures c.push-in-Some-next-child.ensures c.go-down.ensures
+pub loop-at-preserved-in-Some-next_child : goal.loop-at-preserved-in-Some-next_child
+loop-at-preserved-in-Some-next_child g c =
+    next_going (task g c.requires.lies c.requires.asks) c.loop-at.invariant c.in-Some.ensures c.in-Some-next_child.ensures c.push-in-Some-next_child.ensures c.go_down.ensures
 
 pub release-requires : goal.release-requires
 release-requires g c = last_held (task g c.requires.lies c.requires.asks) c.loop-at.invariant c.in-Some.ensures c.in-None.ensures

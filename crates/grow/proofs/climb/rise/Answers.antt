@@ -14,20 +14,20 @@ use Rattle.grow.proofs.climb.rise.Goals as goal
 
 pub put-requires : goal.put-requires
 put-requires g c = record {
-  there = omega (arith, c.requires.ready.inside, c.load-node-page.ensures.len);
-  room = omega (arith, c.requires.ready.few, c.load-node-page.ensures.len, few_entries g.K.Kind.layout.node_cap g.Node.Codec.width 62 g.met.Node.Codec.some g.met.K.Kind.nodeFits);
+  there = omega (arith, c.requires.ready.inside, c.load_node-page.ensures.len);
+  room = omega (arith, c.requires.ready.few, c.load_node-page.ensures.len, few_entries g.K.Kind.layout.node_cap g.Node.Codec.width 62 g.met.Node.Codec.some g.met.K.Kind.nodeFits);
   valid = c.requires.ready.can;
 }
 
-pub settle-node-requires : goal.settle-node-requires
-settle-node-requires g c =
+pub settle_node-requires : goal.settle_node-requires
+settle_node-requires g c =
     let p = c.requires.ready in
-    let r = c.load-node-page.ensures.same in
+    let r = c.load_node-page.ensures.same in
     let w = g.Node.Codec.width in
     let dec = g.Node.Codec.decode in
     let ks = g.K.Kind.layout.children ((g.W.Store.memory c.args.m.now).block c.args.b) in
     let e : entries w dec c.put.new.page ≡ placed ks c.args.place c.args.one c.args.two =
-    put_placed ks _ _ _ _ _ c.load-node-page.ensures.after p.inside c.put.ensures in
+    put_placed ks _ _ _ _ _ c.load_node-page.ensures.after p.inside c.put.ensures in
     let n : c.put.new.page.len ≡ length (placed ks c.args.place c.args.one c.args.two) = sym (length_entries w dec c.put.new.page) ∙ ap length e in
     let len = length_placed ks c.args.place c.args.one c.args.two p.inside in
     let ot = length_one_or_two c.args.one c.args.two in
@@ -49,5 +49,5 @@ returns g c =
     let dec = g.Node.Codec.decode in
     let ks = g.K.Kind.layout.children ((g.W.Store.memory c.args.m.now).block c.args.b) in
     let e : entries w dec c.put.new.page ≡ placed ks c.args.place c.args.one c.args.two =
-    put_placed ks _ _ _ _ _ c.load-node-page.ensures.after p.inside c.put.ensures in
-    settled_after _ _ _ _ _ _ _ _ _ _ _ _ _ _ _ c.load-node-page.ensures.same e c.settle-node.ensures
+    put_placed ks _ _ _ _ _ c.load_node-page.ensures.after p.inside c.put.ensures in
+    settled_after _ _ _ _ _ _ _ _ _ _ _ _ _ _ _ c.load_node-page.ensures.same e c.settle_node.ensures

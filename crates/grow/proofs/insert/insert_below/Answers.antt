@@ -16,7 +16,7 @@ pub reserve-requires : goal.reserve-requires
 reserve-requires g c =
     let p = c.requires in
     let d = c.descend-reached.ensures in
-    let e = c.blocks-for.ensures in (
+    let e = c.blocks_for.ensures in (
       omega (arith, few _ (fit g) _ _ c.args.x _ p.lies p.tall p.asks _ _ d _ e),
       (
         reserve_asks _ (fit g) _ _ c.args.x _ p.lies p.tall p.asks _ _ d _ e,
@@ -27,51 +27,51 @@ reserve-requires g c =
 pub returns-in-err-stock : goal.returns-in-err-stock
 returns-in-err-stock g c =
     let p = c.requires in
-    MatchResult-from_err _ _ _ c.from-residual.ensures.0 (λ _. gave_up _ (fit g) _ _ c.args.x _ p.lies p.tall p.asks _ _ c.descend-reached.ensures _ c.blocks-for.ensures _ c.in-err-stock.ensures)
+    MatchResult-from_err _ _ _ c.from-residual.ensures.0 (λ _. gave_up _ (fit g) _ _ c.args.x _ p.lies p.tall p.asks _ _ c.descend-reached.ensures _ c.blocks_for.ensures _ c.in-err-stock.ensures)
 
-pub insert-leaf-split-requires : goal.insert-leaf-split-requires
-insert-leaf-split-requires g c =
+pub insert_leaf-split-requires : goal.insert_leaf-split-requires
+insert_leaf-split-requires g c =
     let p = c.requires in
-    let k = leaf_takes _ (fit g) _ _ c.args.x _ p.lies p.tall p.asks _ _ c.descend-reached.ensures _ c.blocks-for.ensures _ _ c.in-ok-stock.ensures in
+    let k = leaf_takes _ (fit g) _ _ c.args.x _ p.lies p.tall p.asks _ _ c.descend-reached.ensures _ c.blocks_for.ensures _ _ c.in-ok-stock.ensures in
     record { asks = k.asks; there = k.there; few = k.few; place = k.place; room = k.room; stocked = k.stocked; beside = k.beside }
 
 pub climb-top-requires : goal.climb-top-requires
 climb-top-requires g c =
     let p = c.requires in
     let d = c.descend-reached.ensures in
-    let e = c.blocks-for.ensures in
+    let e = c.blocks_for.ensures in
     let rv = c.in-ok-stock.ensures in
     record {
       deep = omega (arith, shallow _ (fit g) _ _ c.args.x _ p.lies p.tall p.asks _ _ d _ e);
-      asks = asks_to_climb _ (fit g) _ _ c.args.x _ p.lies p.tall p.asks _ _ d _ e _ _ rv _ _ _ _ c.insert-leaf-split.ensures;
-      rises = can_climb _ (fit g) _ _ c.args.x _ p.lies p.tall p.asks _ _ d _ e _ _ rv _ _ _ _ c.insert-leaf-split.ensures;
+      asks = asks_to_climb _ (fit g) _ _ c.args.x _ p.lies p.tall p.asks _ _ d _ e _ _ rv _ _ _ _ c.insert_leaf-split.ensures;
+      rises = can_climb _ (fit g) _ _ c.args.x _ p.lies p.tall p.asks _ _ d _ e _ _ rv _ _ _ _ c.insert_leaf-split.ensures;
     }
 
-pub new-root-tree-requires : goal.new-root-tree-requires
-new-root-tree-requires g c =
+pub new_root-tree-requires : goal.new_root-tree-requires
+new_root-tree-requires g c =
     let p = c.requires in
     let d = c.descend-reached.ensures in
-    let e = c.blocks-for.ensures in
+    let e = c.blocks_for.ensures in
     let rv = c.in-ok-stock.ensures in
     let cl = c.climb-top.ensures in
     record {
-      asks = crown_asks _ (fit g) _ _ c.args.x _ p.lies p.tall p.asks _ _ d _ e _ _ rv _ _ _ _ c.insert-leaf-split.ensures _ _ _ _ cl.climbs cl.spent;
+      asks = crown_asks _ (fit g) _ _ c.args.x _ p.lies p.tall p.asks _ _ d _ e _ _ rv _ _ _ _ c.insert_leaf-split.ensures _ _ _ _ cl.climbs cl.spent;
       low = omega (arith, low _ (fit g) _ _ c.args.x _ p.lies p.tall p.asks _ _ d _ e);
-      rises = can_crown _ (fit g) _ _ c.args.x _ p.lies p.tall p.asks _ _ d _ e _ _ rv _ _ _ _ c.insert-leaf-split.ensures _ _ _ _ cl.climbs cl.spent;
+      rises = can_crown _ (fit g) _ _ c.args.x _ p.lies p.tall p.asks _ _ d _ e _ _ rv _ _ _ _ c.insert_leaf-split.ensures _ _ _ _ cl.climbs cl.spent;
     }
 
-pub give-all-requires : goal.give-all-requires
-give-all-requires g c =
+pub give_all-requires : goal.give_all-requires
+give_all-requires g c =
     let p = c.requires in
     let cl = c.climb-top.ensures in
-    let cr = c.new-root-tree.ensures in
-    rest _ (fit g) _ _ c.args.x _ p.lies p.tall p.asks _ _ c.descend-reached.ensures _ c.blocks-for.ensures _ _ c.in-ok-stock.ensures _ _ _ _ c.insert-leaf-split.ensures
+    let cr = c.new_root-tree.ensures in
+    rest _ (fit g) _ _ c.args.x _ p.lies p.tall p.asks _ _ c.descend-reached.ensures _ c.blocks_for.ensures _ _ c.in-ok-stock.ensures _ _ _ _ c.insert_leaf-split.ensures
     _ _ _ _ cl.climbs cl.spent _ _ _ cr.crowns cr.spent
 
 pub returns : goal.returns
 returns g c =
     let p = c.requires in
     let cl = c.climb-top.ensures in
-    let cr = c.new-root-tree.ensures in
-    done _ (fit g) _ _ c.args.x _ p.lies p.tall p.asks _ _ c.descend-reached.ensures _ c.blocks-for.ensures _ _ c.in-ok-stock.ensures _ _ _ _ c.insert-leaf-split.ensures
-    _ _ _ _ cl.climbs cl.spent _ _ _ cr.crowns cr.spent _ c.give-all.ensures
+    let cr = c.new_root-tree.ensures in
+    done _ (fit g) _ _ c.args.x _ p.lies p.tall p.asks _ _ c.descend-reached.ensures _ c.blocks_for.ensures _ _ c.in-ok-stock.ensures _ _ _ _ c.insert_leaf-split.ensures
+    _ _ _ _ cl.climbs cl.spent _ _ _ cr.crowns cr.spent _ c.give_all.ensures

@@ -6,8 +6,8 @@ use Rattle.grow.proofs.root.new_root.Goals as goal
 pub overflow-cast-result : goal.overflow-cast-result
 overflow-cast-result g c = record { fits = omega (arith, low_block _ _ _ _ _ _ c.requires.rises.1) }
 
-pub node-above-requires : goal.node-above-requires
-node-above-requires g c =
+pub node_above-requires : goal.node_above-requires
+node_above-requires g c =
     let v = c.requires.rises.1 in
     record {
       asks = c.requires.asks;
@@ -24,6 +24,6 @@ returns-in-None g c = record {
 
 pub returns-in-Some : goal.returns-in-Some
 returns-in-Some g c = record {
-  crowns = λ z e w v. crown_two _ z _ _ _ _ v _ e g.met.K.Kind.lawful _ _ c.in-Some.is _ _ _ c.node-above.ensures;
-  spent = spent_ran _ _ _ _ _ c.node-above.ensures.ran;
+  crowns = λ z e w v. crown_two _ z _ _ _ _ v _ e g.met.K.Kind.lawful _ _ c.in-Some.is _ _ _ c.node_above.ensures;
+  spent = spent_ran _ _ _ _ _ c.node_above.ensures.ran;
 }

@@ -19,5 +19,5 @@ returns g c =
       stay = stay;
       leave = leave;
       lens = c.halve-upper.ensures.lens;
-      parted = split_two (imaged w dec) _ _ xs _ _ _ _ _ c.requires.there c.requires.stocked c.requires.beside _ c.into-block-block.ensures.0 c.take.ensures _ _ stay leave c.store-page.ensures c.store-page-2.ensures;
+      parted = split_two (imaged w dec) _ _ xs _ _ _ _ _ c.requires.there c.requires.stocked c.requires.beside _ c.into_block-block.ensures.0 c.take.ensures _ _ stay leave c.store_page.ensures c.store_page-2.ensures;
     }

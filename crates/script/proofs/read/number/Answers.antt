@@ -4,7 +4,7 @@ use Rattle.std.proofs.lemmas.Bool.Decides.{not_from_Decides}
 use Rattle.script.proofs.Figures.{signless}
 use Rattle.script.proofs.read.number.Goals as goal
 
-pub returns-else-starts-with : goal.returns-else-starts-with
-returns-else-starts-with c =
-    let plus = starts_char 43 c.args.text.now c.starts-with.result c.starts-with.ensures.cases (omega arith) (omega arith) in
-    signless c.args.text.now c.signed.result (not_from_Decides _ plus c.if-starts-with.false) c.signed.ensures
+pub returns-else-starts_with : goal.returns-else-starts_with
+returns-else-starts_with c =
+    let plus = starts_char 43 c.args.text.now c.starts_with.result c.starts_with.ensures.cases (omega arith) (omega arith) in
+    signless c.args.text.now c.signed.result (not_from_Decides _ plus c.if-starts_with.false) c.signed.ensures

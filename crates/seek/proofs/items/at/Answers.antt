@@ -12,8 +12,8 @@ descend-place-requires g c =
       asks = omega (arith, c.requires.asks);
     }
 
-pub read-item-requires : goal.read-item-requires
-read-item-requires g c =
+pub read_item-requires : goal.read_item-requires
+read_item-requires g c =
     let z = c.descend-place.ensures in
     record {
       asks = asks_of_leaf _ _ _ _ _ _ _ z _ c.requires.asks;
@@ -26,6 +26,6 @@ pub returns : goal.returns
 returns g c =
     let z = c.descend-place.ensures in
     record {
-      value = λ d. c.read-item.ensures.value d ∙ leaf_item _ _ _ _ _ _ z d;
-      same = reading_then _ _ _ _ _ _ (omega arith) z.same c.read-item.ensures.same;
+      value = λ d. c.read_item.ensures.value d ∙ leaf_item _ _ _ _ _ _ z d;
+      same = reading_then _ _ _ _ _ _ (omega arith) z.same c.read_item.ensures.same;
     }

@@ -12,8 +12,8 @@ descend-place-requires g c =
       asks = omega (arith, c.requires.asks);
     }
 
-pub write-item-requires : goal.write-item-requires
-write-item-requires g c =
+pub write_item-requires : goal.write_item-requires
+write_item-requires g c =
     let z = c.descend-place.ensures in
     record {
       asks = asks_of_leaf _ _ _ _ _ _ _ z _ c.requires.asks;
@@ -23,4 +23,4 @@ write-item-requires g c =
     }
 
 pub returns : goal.returns
-returns g c = updated g.K.Kind.layout _ _ _ c.args.t c.args.i c.args.x c.descend-place.result c.requires.lies c.descend-place.ensures c.write-item.ensures c.requires.alike
+returns g c = updated g.K.Kind.layout _ _ _ c.args.t c.args.i c.args.x c.descend-place.result c.requires.lies c.descend-place.ensures c.write_item.ensures c.requires.alike

@@ -13,14 +13,14 @@ room g = few_entries g.K.Kind.layout.leaf_cap g.Leaf.Codec.width 62 g.met.Leaf.C
 pub write-requires : goal.write-requires
 write-requires g c = omega (arith, g.met.Leaf.Codec.small)
 
-pub entry-number-requires : goal.entry-number-requires
-entry-number-requires g c = omega (arith, c.requires.inside, c.requires.few, room g)
+pub entry_number-requires : goal.entry_number-requires
+entry_number-requires g c = omega (arith, c.requires.inside, c.requires.few, room g)
 
-pub store-entry-requires : goal.store-entry-requires
-store-entry-requires g c = record {
+pub store_entry-requires : goal.store_entry-requires
+store_entry-requires g c = record {
   asks = omega (arith, c.requires.asks, g.met.Leaf.Codec.small);
   there = c.requires.there;
-  inside = entry_inside g.Leaf.Codec.width g.K.Kind.layout.leaf_cap c.entry-number.result g.met.K.Kind.leafFits (omega (arith, c.entry-number.ensures, c.requires.inside, c.requires.few));
+  inside = entry_inside g.Leaf.Codec.width g.K.Kind.layout.leaf_cap c.entry_number.result g.met.K.Kind.leafFits (omega (arith, c.entry_number.ensures, c.requires.inside, c.requires.few));
 }
 
 pub returns : goal.returns
@@ -33,4 +33,4 @@ returns g c =
     writing_entry w g.Leaf.Codec.decode g.K.Kind.layout.items g.met.K.Kind.leaves c.args.at x (g.Leaf.Codec.encode x) s (g.met.Leaf.Codec.back x (g.met.K.Kind.itemsValid x)) c.args.leaf _ c.write.new.words _ _
     c.requires.there c.requires.inside (omega (arith, fits, g.met.K.Kind.leafFits)) g.met.Leaf.Codec.small
     (ap (take w) c.write.ensures ∙ take_pasted w _ (g.Leaf.Codec.encode x) s)
-    (c.store-entry.ensures ∙ ap (λ (k : ℕ). wrote w c.args.leaf (paste (m.block c.args.leaf) (2 + w * k) c.write.new.words w) m) c.entry-number.ensures)
+    (c.store_entry.ensures ∙ ap (λ (k : ℕ). wrote w c.args.leaf (paste (m.block c.args.leaf) (2 + w * k) c.write.new.words w) m) c.entry_number.ensures)

@@ -2,8 +2,8 @@ use Rattle.std.proofs.Common.{sym, ◌∙◌}
 use Rattle.seek.proofs.Imaged.{first_word, page_fits}
 use Rattle.seek.proofs.nodes.load_leaf.Goals as goal
 
-pub load-page-requires : goal.load-page-requires
-load-page-requires g c =
+pub load_page-requires : goal.load_page-requires
+load_page-requires g c =
     record {
       asks = c.requires.asks;
       there = c.requires.there;
@@ -14,7 +14,7 @@ pub returns : goal.returns
 returns g c =
     let ws = (g.W.Store.memory c.args.m.now).block c.args.b in
     record {
-      after = c.load-page.ensures.after ∙ sym (g.met.K.Kind.leaves ws);
-      len = c.load-page.ensures.len ∙ sym (first_word g.Leaf.Codec.width g.Leaf.Codec.decode g.K.Kind.layout.items g.met.K.Kind.leaves ws);
-      same = c.load-page.ensures.same;
+      after = c.load_page.ensures.after ∙ sym (g.met.K.Kind.leaves ws);
+      len = c.load_page.ensures.len ∙ sym (first_word g.Leaf.Codec.width g.Leaf.Codec.decode g.K.Kind.layout.items g.met.K.Kind.leaves ws);
+      same = c.load_page.ensures.same;
     }

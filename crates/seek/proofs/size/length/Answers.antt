@@ -12,8 +12,8 @@ returns-then-t-eq0 g c =
       same = reading_none _ _;
     }
 
-pub number-of-entries-requires : goal.number-of-entries-requires
-number-of-entries-requires g c =
+pub number_of_entries-requires : goal.number_of_entries-requires
+number_of_entries-requires g c =
     let w = top_leaf g.K.Kind.layout _ _ _ c.if-t-eq1.true c.requires.lies.stands in
     (omega (arith, c.requires.asks), w.there)
 
@@ -21,8 +21,8 @@ pub returns-then-t-eq1 : goal.returns-then-t-eq1
 returns-then-t-eq1 g c =
     let w = top_leaf g.K.Kind.layout _ _ _ c.if-t-eq1.true c.requires.lies.stands in
     record {
-      value = c.number-of-entries.ensures.0 ∙ sym (ap length w.held ∙ first_word g.Leaf.Codec.width g.Leaf.Codec.decode g.K.Kind.layout.items g.met.K.Kind.leaves _);
-      same = reading_asked _ 1 _ _ (omega arith) c.number-of-entries.ensures.1;
+      value = c.number_of_entries.ensures.0 ∙ sym (ap length w.held ∙ first_word g.Leaf.Codec.width g.Leaf.Codec.decode g.K.Kind.layout.items g.met.K.Kind.leaves _);
+      same = reading_asked _ 1 _ _ (omega arith) c.number_of_entries.ensures.1;
     }
 
 pub total-requires : goal.total-requires

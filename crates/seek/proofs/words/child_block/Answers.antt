@@ -8,17 +8,17 @@ nodes g =
     nodes_read _ _ g.Node.Codec.decode g.Node.Codec.encode g.Node.Codec.valid g.met.Node.Codec.sized g.met.Node.Codec.back
     g.met.K.Kind.entriesValid g.met.K.Kind.blockAt g.met.K.Kind.nodes g.met.K.Kind.countAt g.met.K.Kind.nodeFits
 
-pub entry-word-word-requires : goal.entry-word-word-requires
-entry-word-word-requires g c = omega (arith, (nodes g).within c.args.i (omega (arith, c.requires.few, c.requires.inside)))
+pub entry_word-word-requires : goal.entry_word-word-requires
+entry_word-word-requires g c = omega (arith, (nodes g).within c.args.i (omega (arith, c.requires.few, c.requires.inside)))
 
 pub overflow-add-word : goal.overflow-add-word
-overflow-add-word g c = record { fits = omega (arith, c.entry-word-word.ensures, (nodes g).within c.args.i (omega (arith, c.requires.few, c.requires.inside))) }
+overflow-add-word g c = record { fits = omega (arith, c.entry_word-word.ensures, (nodes g).within c.args.i (omega (arith, c.requires.few, c.requires.inside))) }
 
 pub get-requires : goal.get-requires
-get-requires g c = (c.requires.asks, (c.requires.there, omega (arith, c.entry-word-word.ensures, (nodes g).within c.args.i (omega (arith, c.requires.few, c.requires.inside)))))
+get-requires g c = (c.requires.asks, (c.requires.there, omega (arith, c.entry_word-word.ensures, (nodes g).within c.args.i (omega (arith, c.requires.few, c.requires.inside)))))
 
 pub returns : goal.returns
 returns g c =
     let ws = (g.W.Store.memory c.args.m.now).block c.args.b in
-    let e : c.entry-word-word.result + 1 ≡ 3 + g.Node.Codec.width * c.args.i = omega (arith, c.entry-word-word.ensures) in
+    let e : c.entry_word-word.result + 1 ≡ 3 + g.Node.Codec.width * c.args.i = omega (arith, c.entry_word-word.ensures) in
     record { value = c.get.ensures.0 ∙ ap (λ k. get_or ws k 0) e ∙ sym ((nodes g).block_at ws c.args.i c.requires.inside); same = c.get.ensures.1 }

@@ -8,14 +8,14 @@ nodes g =
     nodes_read _ _ g.Node.Codec.decode g.Node.Codec.encode g.Node.Codec.valid g.met.Node.Codec.sized g.met.Node.Codec.back
     g.met.K.Kind.entriesValid g.met.K.Kind.blockAt g.met.K.Kind.nodes g.met.K.Kind.countAt g.met.K.Kind.nodeFits
 
-pub entry-word-word-requires : goal.entry-word-word-requires
-entry-word-word-requires g c = omega (arith, (nodes g).within c.args.i (omega (arith, c.requires.few, c.requires.inside)))
+pub entry_word-word-requires : goal.entry_word-word-requires
+entry_word-word-requires g c = omega (arith, (nodes g).within c.args.i (omega (arith, c.requires.few, c.requires.inside)))
 
 pub get-requires : goal.get-requires
-get-requires g c = (c.requires.asks, (c.requires.there, omega (arith, c.entry-word-word.ensures, (nodes g).within c.args.i (omega (arith, c.requires.few, c.requires.inside)))))
+get-requires g c = (c.requires.asks, (c.requires.there, omega (arith, c.entry_word-word.ensures, (nodes g).within c.args.i (omega (arith, c.requires.few, c.requires.inside)))))
 
 pub returns : goal.returns
 returns g c = record {
-  value = c.get.ensures.0 ∙ rw c.entry-word-word.ensures (sym ((nodes g).count_at _ c.args.i c.requires.inside));
+  value = c.get.ensures.0 ∙ rw c.entry_word-word.ensures (sym ((nodes g).count_at _ c.args.i c.requires.inside));
   same = c.get.ensures.1;
 }

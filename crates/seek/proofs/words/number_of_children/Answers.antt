@@ -7,10 +7,10 @@ pub overflow-cast-result : goal.overflow-cast-result
 overflow-cast-result g c =
     let n = first_word g.Node.Codec.width g.Node.Codec.decode g.K.Kind.layout.children g.met.K.Kind.nodes ((g.W.Store.memory c.args.m.now).block c.args.b) in
     let k = few_entries g.K.Kind.layout.node_cap g.Node.Codec.width 62 g.met.Node.Codec.some g.met.K.Kind.nodeFits in
-    record { fits = omega (arith, c.number-of-entries.ensures.0, n, c.requires.few, k) }
+    record { fits = omega (arith, c.number_of_entries.ensures.0, n, c.requires.few, k) }
 
 pub returns : goal.returns
 returns g c =
     let n = first_word g.Node.Codec.width g.Node.Codec.decode g.K.Kind.layout.children g.met.K.Kind.nodes ((g.W.Store.memory c.args.m.now).block c.args.b) in
     let k = few_entries g.K.Kind.layout.node_cap g.Node.Codec.width 62 g.met.Node.Codec.some g.met.K.Kind.nodeFits in
-    record { value = c.number-of-entries.ensures.0 ∙ sym n; small = omega (arith, c.number-of-entries.ensures.0, n, c.requires.few, k); same = c.number-of-entries.ensures.1 }
+    record { value = c.number_of_entries.ensures.0 ∙ sym n; small = omega (arith, c.number_of_entries.ensures.0, n, c.requires.few, k); same = c.number_of_entries.ensures.1 }

@@ -16,24 +16,24 @@ descend-reached-requires g c =
       asks = omega (arith, c.requires.asks);
     }
 
-pub load-leaf-page-requires : goal.load-leaf-page-requires
-load-leaf-page-requires g c =
+pub load_leaf-page-requires : goal.load_leaf-page-requires
+load_leaf-page-requires g c =
     let K = g.K.Kind.layout in
     let d = c.descend-reached.ensures in
     record { asks = asks_of_leaf K _ _ _ _ false _ d _ (omega (arith, c.requires.asks)); there = leaf_stored K _ _ _ _ false _ d; few = leaf_few K _ _ _ _ false _ d }
 
-pub take-out-item-requires : goal.take-out-item-requires
-take-out-item-requires g c = omega (arith, leaf_inside g.K.Kind.layout _ _ _ _ false _ c.descend-reached.ensures, c.load-leaf-page.ensures.len)
+pub take_out-item-requires : goal.take_out-item-requires
+take_out-item-requires g c = omega (arith, leaf_inside g.K.Kind.layout _ _ _ _ false _ c.descend-reached.ensures, c.load_leaf-page.ensures.len)
 
-pub put-leaf-risen-requires : goal.put-leaf-risen-requires
-put-leaf-risen-requires g c =
+pub put_leaf-risen-requires : goal.put_leaf-risen-requires
+put_leaf-risen-requires g c =
     let K = g.K.Kind.layout in
     let d = c.descend-reached.ensures in
-    let r = c.load-leaf-page.ensures.same in
+    let r = c.load_leaf-page.ensures.same in
     record {
       asks = omega (arith, reading_left _ _ _ r, reading_left _ _ _ d.same, c.requires.asks);
       there = reading_stored _ _ _ r _ (leaf_stored K _ _ _ _ false _ d);
-      few = omega (arith, leaf_few K _ _ _ _ false _ d, c.load-leaf-page.ensures.len, c.take-out-item.ensures.len);
+      few = omega (arith, leaf_few K _ _ _ _ false _ d, c.load_leaf-page.ensures.len, c.take_out-item.ensures.len);
     }
 
 pub climb-top-requires : goal.climb-top-requires
@@ -44,8 +44,8 @@ climb-top-requires g c =
     let narrow = few_entries K.leaf_cap g.Leaf.Codec.width 62 g.met.Leaf.Codec.some g.met.K.Kind.leafFits in
     let m = g.W.Store.memory c.args.m.now in (
       start K lw wide narrow m c.args.t c.args.at c.requires.lies c.requires.place c.requires.asks,
-      code_begun K lw wide narrow m c.args.t c.args.at c.requires.lies c.requires.place c.requires.asks _ _ _ _ c.descend-reached.ensures c.load-leaf-page.ensures.same
-          _ _ _ c.load-leaf-page.ensures.after c.take-out-item.ensures.rest c.put-leaf-risen.ensures,
+      code_begun K lw wide narrow m c.args.t c.args.at c.requires.lies c.requires.place c.requires.asks _ _ _ _ c.descend-reached.ensures c.load_leaf-page.ensures.same
+          _ _ _ c.load_leaf-page.ensures.after c.take_out-item.ensures.rest c.put_leaf-risen.ensures,
     )
 
 pub trim-requires : goal.trim-requires
@@ -56,9 +56,9 @@ trim-requires g c =
     let narrow = few_entries K.leaf_cap g.Leaf.Codec.width 62 g.met.Leaf.Codec.some g.met.K.Kind.leafFits in
     let m = g.W.Store.memory c.args.m.now in
     let z = start K lw wide narrow m c.args.t c.args.at c.requires.lies c.requires.place c.requires.asks in
-    let v = code_begun K lw wide narrow m c.args.t c.args.at c.requires.lies c.requires.place c.requires.asks _ _ _ _ c.descend-reached.ensures c.load-leaf-page.ensures.same
-    _ _ _ c.load-leaf-page.ensures.after c.take-out-item.ensures.rest c.put-leaf-risen.ensures in
-    (z, code_topmost K lw wide narrow m c.args.t c.args.at c.requires.lies c.requires.place c.requires.asks _ _ _ (g.W.Store.memory c.put-leaf-risen.new.m) c.descend-reached.ensures c.load-leaf-page.ensures.same _ _ (c.climb-top.ensures z v))
+    let v = code_begun K lw wide narrow m c.args.t c.args.at c.requires.lies c.requires.place c.requires.asks _ _ _ _ c.descend-reached.ensures c.load_leaf-page.ensures.same
+    _ _ _ c.load_leaf-page.ensures.after c.take_out-item.ensures.rest c.put_leaf-risen.ensures in
+    (z, code_topmost K lw wide narrow m c.args.t c.args.at c.requires.lies c.requires.place c.requires.asks _ _ _ (g.W.Store.memory c.put_leaf-risen.new.m) c.descend-reached.ensures c.load_leaf-page.ensures.same _ _ (c.climb-top.ensures z v))
 
 pub returns : goal.returns
 returns g c =
@@ -68,8 +68,8 @@ returns g c =
     let narrow = few_entries K.leaf_cap g.Leaf.Codec.width 62 g.met.Leaf.Codec.some g.met.K.Kind.leafFits in
     let m = g.W.Store.memory c.args.m.now in
     let z = start K lw wide narrow m c.args.t c.args.at c.requires.lies c.requires.place c.requires.asks in
-    let v = code_begun K lw wide narrow m c.args.t c.args.at c.requires.lies c.requires.place c.requires.asks _ _ _ _ c.descend-reached.ensures c.load-leaf-page.ensures.same
-    _ _ _ c.load-leaf-page.ensures.after c.take-out-item.ensures.rest c.put-leaf-risen.ensures in
-    let w = code_topmost K lw wide narrow m c.args.t c.args.at c.requires.lies c.requires.place c.requires.asks _ _ _ (g.W.Store.memory c.put-leaf-risen.new.m) c.descend-reached.ensures c.load-leaf-page.ensures.same _ _ (c.climb-top.ensures z v) in
-    code_deleted K lw wide narrow m c.args.t c.args.at c.requires.lies c.requires.place c.requires.asks _ _ _ (g.W.Store.memory c.put-leaf-risen.new.m) c.descend-reached.ensures c.load-leaf-page.ensures.same
-    _ _ c.trim.result _ c.load-leaf-page.ensures.after c.take-out-item.ensures.item (c.trim.ensures z w)
+    let v = code_begun K lw wide narrow m c.args.t c.args.at c.requires.lies c.requires.place c.requires.asks _ _ _ _ c.descend-reached.ensures c.load_leaf-page.ensures.same
+    _ _ _ c.load_leaf-page.ensures.after c.take_out-item.ensures.rest c.put_leaf-risen.ensures in
+    let w = code_topmost K lw wide narrow m c.args.t c.args.at c.requires.lies c.requires.place c.requires.asks _ _ _ (g.W.Store.memory c.put_leaf-risen.new.m) c.descend-reached.ensures c.load_leaf-page.ensures.same _ _ (c.climb-top.ensures z v) in
+    code_deleted K lw wide narrow m c.args.t c.args.at c.requires.lies c.requires.place c.requires.asks _ _ _ (g.W.Store.memory c.put_leaf-risen.new.m) c.descend-reached.ensures c.load_leaf-page.ensures.same
+    _ _ c.trim.result _ c.load_leaf-page.ensures.after c.take_out-item.ensures.item (c.trim.ensures z w)

@@ -11,46 +11,46 @@ use Rattle.shrink.proofs.share.share_nodes.Goals as goal
 
 pub even-right-requires : goal.even-right-requires
 even-right-requires g c =
-    let x = nodes_apart g.K.Kind.layout g.Node.Codec.decode g.Node.Codec.width c.node-cap.result c.requires.neighbours.0 c.args.a c.args.b (g.W.Store.memory c.args.m.now) g.met.K.Kind.nodes g.met.K.Kind.nodeFits c.node-cap.ensures c.requires.neighbours.1 in
+    let x = nodes_apart g.K.Kind.layout g.Node.Codec.decode g.Node.Codec.width c.node_cap.result c.requires.neighbours.0 c.args.a c.args.b (g.W.Store.memory c.args.m.now) g.met.K.Kind.nodes g.met.K.Kind.nodeFits c.node_cap.ensures c.requires.neighbours.1 in
     record { asks = c.requires.asks; left = x.left; right = x.right; apart = x.apart; left_few = x.left_few; right_few = x.right_few; room = x.room; held = x.held }
 
-pub node-entry-one-requires : goal.node-entry-one-requires
-node-entry-one-requires g c =
+pub node_entry-one-requires : goal.node_entry-one-requires
+node_entry-one-requires g c =
     let K = g.K.Kind.layout in
     let m = g.W.Store.memory c.args.m.now in
     let n = g.W.Store.memory c.even-right.new.m in
-    let some : 0 < half c.node-cap.result = omega (arith, c.node-cap.ensures, g.met.K.Kind.lawful.node_room) in
+    let some : 0 < half c.node_cap.result = omega (arith, c.node_cap.ensures, g.met.K.Kind.lawful.node_room) in
     record {
       some = omega (
         arith,
         length_entries g.Node.Codec.width g.Node.Codec.decode c.even-right.result.0,
-        first_some (entries g.Node.Codec.width g.Node.Codec.decode) (imaged g.Node.Codec.width g.Node.Codec.decode) K.children g.met.K.Kind.nodes c.node-cap.result c.args.a c.args.b m n c.even-right.result.0 c.even-right.result.1 c.even-right.ensures
-            some (nodes_enough K g.met.K.Kind.lawful c.args.a c.args.b m c.node-cap.result c.requires.neighbours.0 c.node-cap.ensures c.requires.neighbours.1),
+        first_some (entries g.Node.Codec.width g.Node.Codec.decode) (imaged g.Node.Codec.width g.Node.Codec.decode) K.children g.met.K.Kind.nodes c.node_cap.result c.args.a c.args.b m n c.even-right.result.0 c.even-right.result.1 c.even-right.ensures
+            some (nodes_enough K g.met.K.Kind.lawful c.args.a c.args.b m c.node_cap.result c.requires.neighbours.0 c.node_cap.ensures c.requires.neighbours.1),
       );
       few = omega (
         arith,
         counts_both K share_asks c.args.a c.args.b m g.met.K.Kind.lawful c.requires.neighbours.0 c.requires.neighbours.1,
-        first_part (entries g.Node.Codec.width g.Node.Codec.decode) (imaged g.Node.Codec.width g.Node.Codec.decode) K.children g.met.K.Kind.nodes c.node-cap.result c.args.a c.args.b m n c.even-right.result.0 c.even-right.result.1 c.even-right.ensures counts counts_append,
+        first_part (entries g.Node.Codec.width g.Node.Codec.decode) (imaged g.Node.Codec.width g.Node.Codec.decode) K.children g.met.K.Kind.nodes c.node_cap.result c.args.a c.args.b m n c.even-right.result.0 c.even-right.result.1 c.even-right.ensures counts counts_append,
       );
     }
 
-pub node-entry-requires : goal.node-entry-requires
-node-entry-requires g c =
+pub node_entry-requires : goal.node_entry-requires
+node_entry-requires g c =
     let K = g.K.Kind.layout in
     let m = g.W.Store.memory c.args.m.now in
     let n = g.W.Store.memory c.even-right.new.m in
-    let some : 0 < half c.node-cap.result = omega (arith, c.node-cap.ensures, g.met.K.Kind.lawful.node_room) in
+    let some : 0 < half c.node_cap.result = omega (arith, c.node_cap.ensures, g.met.K.Kind.lawful.node_room) in
     record {
       some = omega (
         arith,
         length_entries g.Node.Codec.width g.Node.Codec.decode c.in-Some.right,
-        second_some (entries g.Node.Codec.width g.Node.Codec.decode) (imaged g.Node.Codec.width g.Node.Codec.decode) K.children g.met.K.Kind.nodes c.node-cap.result c.args.a c.args.b m n c.even-right.result.0 c.even-right.result.1 c.even-right.ensures
+        second_some (entries g.Node.Codec.width g.Node.Codec.decode) (imaged g.Node.Codec.width g.Node.Codec.decode) K.children g.met.K.Kind.nodes c.node_cap.result c.args.a c.args.b m n c.even-right.result.0 c.even-right.result.1 c.even-right.ensures
             c.in-Some.right c.in-Some.is some,
       );
       few = omega (
         arith,
         counts_both K share_asks c.args.a c.args.b m g.met.K.Kind.lawful c.requires.neighbours.0 c.requires.neighbours.1,
-        second_part (entries g.Node.Codec.width g.Node.Codec.decode) (imaged g.Node.Codec.width g.Node.Codec.decode) K.children g.met.K.Kind.nodes c.node-cap.result c.args.a c.args.b m n c.even-right.result.0 c.even-right.result.1 c.even-right.ensures
+        second_part (entries g.Node.Codec.width g.Node.Codec.decode) (imaged g.Node.Codec.width g.Node.Codec.decode) K.children g.met.K.Kind.nodes c.node_cap.result c.args.a c.args.b m n c.even-right.result.0 c.even-right.result.1 c.even-right.ensures
             c.in-Some.right c.in-Some.is counts counts_append,
       );
     }
@@ -60,17 +60,17 @@ returns-in-Some g c = λ h v.
     let K = g.K.Kind.layout in
     let m = g.W.Store.memory c.args.m.now in
     let n = g.W.Store.memory c.even-right.new.m in
-    to_two (entries g.Node.Codec.width g.Node.Codec.decode) (imaged g.Node.Codec.width g.Node.Codec.decode) K.children g.met.K.Kind.nodes c.node-cap.result c.args.a c.args.b m n c.even-right.result.0 c.even-right.result.1 c.even-right.ensures
+    to_two (entries g.Node.Codec.width g.Node.Codec.decode) (imaged g.Node.Codec.width g.Node.Codec.decode) K.children g.met.K.Kind.nodes c.node_cap.result c.args.a c.args.b m n c.even-right.result.0 c.even-right.result.1 c.even-right.ensures
     c.in-Some.right c.in-Some.is (entry_of K) (λ ns. Shared K share_asks (suc h) c.args.a c.args.b m ns n)
-    (λ xs ys p. nodes_shared_two K g.met.K.Kind.lawful c.args.a c.args.b m c.node-cap.result h n xs ys c.node-cap.ensures v p)
-    _ _ c.node-entry-one.ensures.value c.node-entry.ensures.value
+    (λ xs ys p. nodes_shared_two K g.met.K.Kind.lawful c.args.a c.args.b m c.node_cap.result h n xs ys c.node_cap.ensures v p)
+    _ _ c.node_entry-one.ensures.value c.node_entry.ensures.value
 
 pub returns-in-None : goal.returns-in-None
 returns-in-None g c = λ h v.
     let K = g.K.Kind.layout in
     let m = g.W.Store.memory c.args.m.now in
     let n = g.W.Store.memory c.even-right.new.m in
-    to_one (entries g.Node.Codec.width g.Node.Codec.decode) (imaged g.Node.Codec.width g.Node.Codec.decode) K.children g.met.K.Kind.nodes c.node-cap.result c.args.a c.args.b m n c.even-right.result.0 c.even-right.result.1 c.even-right.ensures
+    to_one (entries g.Node.Codec.width g.Node.Codec.decode) (imaged g.Node.Codec.width g.Node.Codec.decode) K.children g.met.K.Kind.nodes c.node_cap.result c.args.a c.args.b m n c.even-right.result.0 c.even-right.result.1 c.even-right.ensures
     c.in-None.is (entry_of K) (λ ns. Shared K share_asks (suc h) c.args.a c.args.b m ns n)
-    (λ xs p. nodes_shared K g.met.K.Kind.lawful c.args.a c.args.b m c.node-cap.result h n xs c.node-cap.ensures v p)
-    _ c.node-entry-one.ensures.value
+    (λ xs p. nodes_shared K g.met.K.Kind.lawful c.args.a c.args.b m c.node_cap.result h n xs c.node_cap.ensures v p)
+    _ c.node_entry-one.ensures.value

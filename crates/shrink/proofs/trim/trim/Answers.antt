@@ -4,14 +4,14 @@ use Rattle.shrink.specs.Deleting.{Topmost}
 use Rattle.shrink.proofs.CodeTop.{code_full}
 use Rattle.shrink.proofs.trim.trim.Goals as goal
 
-pub trim-leaf-requires : goal.trim-leaf-requires
-trim-leaf-requires g c = record {
+pub trim_leaf-requires : goal.trim_leaf-requires
+trim_leaf-requires g c = record {
   height = c.if-t-eq1.true;
   top = (c.requires.0, subst (λ (o : Option Child). Topmost g.K.Kind.layout c.requires.0 c.args.t (g.W.Store.memory c.args.m.now) o) c.in-None.is c.requires.1);
 }
 
-pub trim-node-requires : goal.trim-node-requires
-trim-node-requires g c = record {
+pub trim_node-requires : goal.trim_node-requires
+trim_node-requires g c = record {
   height = omega (arith, c.if-t-eq1.false, c.requires.1.level);
   top = (c.requires.0, subst (λ (o : Option Child). Topmost g.K.Kind.layout c.requires.0 c.args.t (g.W.Store.memory c.args.m.now) o) c.in-None.is c.requires.1);
 }

@@ -15,8 +15,8 @@ share-two-requires g c = record {
   next = (c.requires.next.0, next_at g.K.Kind.layout c.args.leaves _ c.args.at _ c.get-a.result c.get-b.result c.get-a.ensures.value c.get-b.ensures.value c.requires.next.0 c.requires.next.1);
 }
 
-pub replace-two-requires : goal.replace-two-requires
-replace-two-requires g c =
+pub replace_two-requires : goal.replace_two-requires
+replace_two-requires g c =
     let n = next_at g.K.Kind.layout c.args.leaves _ c.args.at _ c.get-a.result c.get-b.result c.get-a.ensures.value c.get-b.ensures.value c.requires.next.0 c.requires.next.1 in
     record {
       there = c.requires.there;
@@ -24,4 +24,4 @@ replace-two-requires g c =
     }
 
 pub returns : goal.returns
-returns g c = mended_at g.K.Kind.layout c.args.leaves _ c.args.at _ c.get-a.result c.get-b.result c.get-a.ensures.value c.get-b.ensures.value _ _ _ c.share-two.ensures c.replace-two.ensures
+returns g c = mended_at g.K.Kind.layout c.args.leaves _ c.args.at _ c.get-a.result c.get-b.result c.get-a.ensures.value c.get-b.ensures.value _ _ _ c.share-two.ensures c.replace_two.ensures

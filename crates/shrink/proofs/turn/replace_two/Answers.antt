@@ -9,11 +9,11 @@ replace-requires g c = record { there = omega (arith, c.requires.there); valid =
 pub replace-requires-in-Some : goal.replace-requires-in-Some
 replace-requires-in-Some g c = record { there = omega (arith, c.requires.there, c.replace.ensures.len); valid = second_of (λ k. T (g.Node.Codec.valid k)) c.args.one c.args.two c.in-Some.two c.in-Some.is c.requires.valid }
 
-pub cut-out-requires : goal.cut-out-requires
-cut-out-requires g c = omega (arith, c.requires.there, c.replace.ensures.len)
+pub cut_out-requires : goal.cut_out-requires
+cut_out-requires g c = omega (arith, c.requires.there, c.replace.ensures.len)
 
 pub returns-in-Some : goal.returns-in-Some
 returns-in-Some g c = replaced_two _ _ _ c.args.at c.args.one c.args.two (omega (arith, c.requires.there, length_entries g.Node.Codec.width g.Node.Codec.decode c.args.page.now)) c.replace.ensures.after c.in-Some.two c.in-Some.is c.replace-in-Some.ensures.after
 
 pub returns-in-None : goal.returns-in-None
-returns-in-None g c = replaced_one _ _ _ c.args.at c.args.one c.args.two (omega (arith, c.requires.there, length_entries g.Node.Codec.width g.Node.Codec.decode c.args.page.now)) c.replace.ensures.after c.in-None.is c.cut-out.ensures.after
+returns-in-None g c = replaced_one _ _ _ c.args.at c.args.one c.args.two (omega (arith, c.requires.there, length_entries g.Node.Codec.width g.Node.Codec.decode c.args.page.now)) c.replace.ensures.after c.in-None.is c.cut_out.ensures.after

@@ -12,8 +12,8 @@ loop-m-preserved g c = (
   omega (arith, c.add.ensures.more),
 )
 
-pub give-up-requires : goal.give-up-requires
-give-up-requires g c =
+pub give_up-requires : goal.give_up-requires
+give_up-requires g c =
     let p = c.loop-m.invariant.0 in
     let e = c.in-None.ensures in (
       omega (arith, p.left, ap (λ (x : Memory). x.left) e),
@@ -26,4 +26,4 @@ give-up-requires g c =
 pub returns-in-None : goal.returns-in-None
 returns-in-None g c =
     let p = c.loop-m.invariant.0 in
-    refused_undone _ _ _ _ _ p c.in-None.ensures c.args.n _ (omega arith) (omega (arith, p.left)) c.give-up.ensures
+    refused_undone _ _ _ _ _ p c.in-None.ensures c.args.n _ (omega arith) (omega (arith, p.left)) c.give_up.ensures

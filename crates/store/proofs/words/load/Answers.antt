@@ -8,10 +8,10 @@ pub loop-i-init : goal.loop-i-init
 loop-i-init g c = loaded_none _ _
 
 pub loop-i-preserved : goal.loop-i-preserved
-loop-i-preserved g c = loaded_more _ _ _ _ _ _ _ (omega arith) c.requires.1.1.1 c.loop-i.invariant c.read-word.ensures.words c.read-word.ensures.same
+loop-i-preserved g c = loaded_more _ _ _ _ _ _ _ (omega arith) c.requires.1.1.1 c.loop-i.invariant c.read_word.ensures.words c.read_word.ensures.same
 
-pub read-word-requires : goal.read-word-requires
-read-word-requires g c =
+pub read_word-requires : goal.read_word-requires
+read_word-requires g c =
     let e = c.loop-i.invariant.same in (
       omega arith,
       (

@@ -10,10 +10,10 @@ loop-i-init g c = stored_none _ c.args.words.now _
 pub loop-i-preserved : goal.loop-i-preserved
 loop-i-preserved g c =
     let m = g.W.Store.memory c.args.m.now in
-    stored_more c.loop-i.i c.args.b c.args.words.now m _ _ (omega arith) (omega arith) c.loop-i.invariant c.write-word.ensures
+    stored_more c.loop-i.i c.args.b c.args.words.now m _ _ (omega arith) (omega arith) c.loop-i.invariant c.write_word.ensures
 
-pub write-word-requires : goal.write-word-requires
-write-word-requires g c =
+pub write_word-requires : goal.write_word-requires
+write_word-requires g c =
     let e = c.loop-i.invariant in
     let old = (g.W.Store.memory c.args.m.now).block c.args.b in (
       omega arith,

@@ -7,9 +7,9 @@ pub bounds-self-self : goal.bounds-self-self
 unfolding trail
 bounds-self-self c = omega (arith, c.requires, length_branches c.args.self.now.visits c.args.self.now.depth)
 
-pub invariant-of-self : goal.invariant-of-self
+pub invariant_of-self : goal.invariant_of-self
 unfolding trail
-invariant-of-self c = omega (arith, c.requires, length_branches c.args.self.now.visits c.args.self.now.depth)
+invariant_of-self c = omega (arith, c.requires, length_branches c.args.self.now.visits c.args.self.now.depth)
 
 pub returns : goal.returns
 unfolding trail

@@ -9,9 +9,9 @@ pub returns : goal.returns
 returns c =
     let ws = c.args.words.now in
     let xs = c.below-free.result.numbers.now in
-    let size = c.blocks-in-size.result in
+    let size = c.blocks_in-size.result in
     record {
       none = subst⁻¹ (λ (n : ℕ). AtStart (lying ws xs n size c.new.result)) c.below-free.ensures.count
           (at_start ws xs size c.new.result c.below-free.ensures.each (ap (λ m. m.failed) c.new.ensures));
-      size = c.blocks-in-size.ensures;
+      size = c.blocks_in-size.ensures;
     }

@@ -16,8 +16,8 @@ left_over h b held =
 pub push-requires : goal.push-requires
 push-requires c = let h = c.args.self.now in omega (arith, left_over h c.args.b c.requires.1.1, h.room)
 
-pub invariant-of-self : goal.invariant-of-self
-invariant-of-self c =
+pub invariant_of-self : goal.invariant_of-self
+invariant_of-self c =
     let h = c.args.self.now in
     let b = c.args.b in
     let held = c.requires.1.1 in

@@ -6,6 +6,6 @@ returns g c =
     record {
       value = c.get-x.ensures.value;
       valid = c.get-x.ensures.valid;
-      len = c.cut-out.ensures.len;
-      after = rw add-one at c.cut-out.ensures.after;
+      len = c.cut_out.ensures.len;
+      after = rw add-one at c.cut_out.ensures.after;
     }

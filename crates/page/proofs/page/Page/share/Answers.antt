@@ -6,15 +6,15 @@ use Rattle.page.proofs.page.Page.share.Goals as goal
 pub returns-then-len-count : goal.returns-then-len-count
 returns-then-len-count g c =
     record {
-      same = moved_down (entries g.C.Codec.width g.C.Codec.decode c.args.self.now) (entries g.C.Codec.width g.C.Codec.decode c.args.right.now) _ c.take-from-right.ensures.left c.take-from-right.ensures.right;
-      left-len = omega arith;
+      same = moved_down (entries g.C.Codec.width g.C.Codec.decode c.args.self.now) (entries g.C.Codec.width g.C.Codec.decode c.args.right.now) _ c.take_from_right.ensures.left c.take_from_right.ensures.right;
+      left_len = omega arith;
       total = omega arith;
     }
 
 pub returns : goal.returns
 returns g c =
     record {
-      same = moved_up (entries g.C.Codec.width g.C.Codec.decode c.args.self.now) (entries g.C.Codec.width g.C.Codec.decode c.args.right.now) _ c.take-from-left.ensures.left c.take-from-left.ensures.right;
-      left-len = omega arith;
+      same = moved_up (entries g.C.Codec.width g.C.Codec.decode c.args.self.now) (entries g.C.Codec.width g.C.Codec.decode c.args.right.now) _ c.take_from_left.ensures.left c.take_from_left.ensures.right;
+      left_len = omega arith;
       total = omega arith;
     }

@@ -6,8 +6,8 @@ use Rattle.store.proofs.Sums.{hit_same}
 use Rattle.store.proofs.Places.{uses_taken, kept_take}
 use Rattle.store.proofs.reserve.Reserve.take.Goals as goal
 
-pub invariant-of-self : goal.invariant-of-self
-invariant-of-self c = let s = c.args.self.now in kept_take _ _ _ c.exchange-old.ensures.0 s.whole s.few c.requires s.there s.others
+pub invariant_of-self : goal.invariant_of-self
+invariant_of-self c = let s = c.args.self.now in let k = kept_take _ _ _ c.exchange-old.ensures.0 s.whole s.few c.requires s.there s.others in record { whole = k.0; few = k.1.0; there = k.1.1.0; others = k.1.1.1.0 }
 
 pub returns : goal.returns
 unfolding uses

@@ -1,5 +1,6 @@
 // Blocks of 64 words that lie in a lent slice.
 #![tactic(auto)]
+
 mod lent;
 mod meter;
 mod sizes;

@@ -1,5 +1,6 @@
 // A ground over any other, that refuses blocks on demand.
 #![tactic(auto)]
+
 ghost use Rattle.std.specs.Prelude.{◌≡◌};
 ghost use Rattle.things.specs.Ground.{AtStart};
 ghost use Rattle.ration.specs.Refusing.{ground_of, fresh, refusing, limited};

@@ -1,5 +1,6 @@
 // Lines of text to what they ask, and replies to text.
 #![tactic(auto)]
+
 ghost use Rattle.script.specs.Back.{ReadsBack};
 
 mod line;

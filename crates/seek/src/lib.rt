@@ -1,5 +1,6 @@
 // The path down to a place in a tree, and what reads and sets an item.
 #![tactic(auto)]
+
 mod choose;
 pub mod descend;
 mod entry;

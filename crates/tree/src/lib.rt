@@ -1,5 +1,6 @@
 // Trees in blocks of memory: what they are, and how their pages are read and written.
 #![tactic(auto)]
+
 ghost use Rattle.std.specs.Prelude.{ℕ};
 ghost use Rattle.page.specs.declared.entry.Pair.{Pair};
 ghost use Rattle.tree.specs.Laws.{Frame, Bound, Height, Number};

@@ -9,9 +9,9 @@ use Rattle.clear.proofs.Going.{Task, low, begins, ends, turn_stored, asks_of_tur
 use Rattle.clear.proofs.nodes.give_nodes.Given as given
 use Rattle.clear.proofs.nodes.give_nodes.Goals as goal
 
-task : (g : given.Over) {t : Tree} {m : Memory} → Lies g.K.Kind.layout m t → give_asks * tall_blocks g.K.Kind.layout t.height m.block t.root ≤ m.left → Task g.K.Kind.layout g.Node.Codec.width t m
+task : (g : given.Over) {t : Tree} {m : Memory} → Lies g.K.Kind.layout m t → give_asks * tall_blocks g.K.Kind.layout t.height m.block t.root ≤ m.left → Task g.K.Kind.layout g.K.Node.Codec.width t m
 task g lies enough = record {
-  nodes = nodes_read _ _ g.Node.Codec.decode g.Node.Codec.encode g.Node.Codec.valid g.met.Node.Codec.sized g.met.Node.Codec.back
+  nodes = nodes_read _ _ g.K.Node.Codec.decode g.K.Node.Codec.encode g.K.Node.Codec.valid g.met.K.Node.Codec.sized g.met.K.Node.Codec.back
       g.met.K.Kind.entriesValid g.met.K.Kind.blockAt g.met.K.Kind.nodes g.met.K.Kind.countAt g.met.K.Kind.nodeFits;
   wide = g.met.K.Kind.wide;
   lies = lies;
@@ -30,8 +30,8 @@ next_child-requires g c = record {
   readable = turn_readable (task g c.requires.lies c.requires.asks) c.loop-at.invariant c.in-Some.ensures;
 }
 
-pub overflow-add-at : goal.overflow-add-at
-overflow-add-at g c =
+pub overflow_add-at : goal.overflow_add-at
+overflow_add-at g c =
     let l = next_place (task g c.requires.lies c.requires.asks) c.loop-at.invariant c.in-Some.ensures c.in-Some-next_child.ensures in
     search rules
 
@@ -62,4 +62,4 @@ pub loop-at-preserved : goal.loop-at-preserved
 loop-at-preserved g c = last_going (task g c.requires.lies c.requires.asks) c.loop-at.invariant c.in-Some.ensures c.in-None.ensures c.release.ensures
 
 pub returns : goal.returns
-returns g c = ends (task g c.requires.lies c.requires.asks) c.loop-at.invariant c.in-default.ensures.0
+returns g c = ends (task g c.requires.lies c.requires.asks) c.loop-at.invariant c.in_default.ensures.0

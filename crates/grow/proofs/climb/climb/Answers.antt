@@ -8,7 +8,7 @@ rise-up-requires g c =
     let v = c.loop-d.invariant.2 c.requires.rises.0 c.requires.rises.1 in
     record {
       asks = omega (arith, c.requires.asks, c.loop-d.invariant.1.asks);
-      ready = ready_at _ _ _ _ c.loop-d-test.true _ _ _ _ _ v g.Node.Codec.valid g.met.K.Kind.entriesValid g.met.K.Kind.lawful;
+      ready = ready_at _ _ _ _ c.loop-d-test.true _ _ _ _ _ v g.K.Node.Codec.valid g.met.K.Kind.entriesValid g.met.K.Kind.lawful;
     }
 
 pub loop-d-preserved : goal.loop-d-preserved

@@ -15,7 +15,7 @@ use Rattle.grow.proofs.climb.rise.Goals as goal
 pub put-requires : goal.put-requires
 put-requires g c = record {
   there = omega (arith, c.requires.ready.inside, c.load_node-page.ensures.len);
-  room = omega (arith, c.requires.ready.few, c.load_node-page.ensures.len, few_entries g.K.Kind.layout.node_cap g.Node.Codec.width 62 g.met.Node.Codec.some g.met.K.Kind.nodeFits);
+  room = omega (arith, c.requires.ready.few, c.load_node-page.ensures.len, few_entries g.K.Kind.layout.node_cap g.K.Node.Codec.width 62 g.met.K.Node.Codec.some g.met.K.Kind.nodeFits);
   valid = c.requires.ready.can;
 }
 
@@ -23,8 +23,8 @@ pub settle_node-requires : goal.settle_node-requires
 settle_node-requires g c =
     let p = c.requires.ready in
     let r = c.load_node-page.ensures.same in
-    let w = g.Node.Codec.width in
-    let dec = g.Node.Codec.decode in
+    let w = g.K.Node.Codec.width in
+    let dec = g.K.Node.Codec.decode in
     let ks = g.K.Kind.layout.children ((g.W.Store.memory c.args.m.now).block c.args.b) in
     let e : entries w dec c.put.new.page ≡ placed ks c.args.place c.args.one c.args.two =
     put_placed ks _ _ _ _ _ c.load_node-page.ensures.after p.inside c.put.ensures in
@@ -45,8 +45,8 @@ settle_node-requires g c =
 pub returns : goal.returns
 returns g c =
     let p = c.requires.ready in
-    let w = g.Node.Codec.width in
-    let dec = g.Node.Codec.decode in
+    let w = g.K.Node.Codec.width in
+    let dec = g.K.Node.Codec.decode in
     let ks = g.K.Kind.layout.children ((g.W.Store.memory c.args.m.now).block c.args.b) in
     let e : entries w dec c.put.new.page ≡ placed ks c.args.place c.args.one c.args.two =
     put_placed ks _ _ _ _ _ c.load_node-page.ensures.after p.inside c.put.ensures in

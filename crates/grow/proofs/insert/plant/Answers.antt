@@ -5,5 +5,5 @@ use Rattle.std.proofs.Common.{[], ◌∷◌, ◌++◌, ap, ◌∙◌}
 
 pub returns-in-Some : goal.returns-in-Some
 returns-in-Some g c =
-    planted _ g.met.K.Kind.lawful (imaged g.Leaf.Codec.width g.Leaf.Codec.decode) g.met.K.Kind.leaves _ _ _ _ _ _ _ c.in-Some.ensures c.into_block-root.ensures.0
+    planted _ g.met.K.Kind.lawful (imaged g.K.Leaf.Codec.width g.K.Leaf.Codec.decode) g.met.K.Kind.leaves _ _ _ _ _ _ _ c.in-Some.ensures c.into_block-root.ensures.0
     (c.push.ensures.after ∙ ap (λ ys. ys ++ (c.args.x ∷ [])) c.new-page.ensures.after) c.store_page.ensures

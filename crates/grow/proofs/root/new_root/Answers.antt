@@ -3,15 +3,15 @@ use Rattle.grow.proofs.Climbing.{spent_ran}
 use Rattle.grow.proofs.Crowning.{low_block, valid_two, spare, crown_one, crown_two}
 use Rattle.grow.proofs.root.new_root.Goals as goal
 
-pub overflow-cast-result : goal.overflow-cast-result
-overflow-cast-result g c = record { fits = omega (arith, low_block _ _ _ _ _ _ c.requires.rises.1) }
+pub overflow_cast-result : goal.overflow_cast-result
+overflow_cast-result g c = record { fits = omega (arith, low_block _ _ _ _ _ _ c.requires.rises.1) }
 
 pub node_above-requires : goal.node_above-requires
 node_above-requires g c =
     let v = c.requires.rises.1 in
     record {
       asks = c.requires.asks;
-      valid = valid_two _ _ _ _ _ _ v g.Node.Codec.valid g.met.K.Kind.entriesValid _ c.in-Some.is;
+      valid = valid_two _ _ _ _ _ _ v g.K.Node.Codec.valid g.met.K.Kind.entriesValid _ c.in-Some.is;
       some = spare _ _ _ _ _ _ v _ c.in-Some.is;
       stocked = v.stocked;
     }

@@ -3,5 +3,5 @@ use Rattle.script.specs.Lines.{table}
 use Rattle.script.proofs.Tables.{absent}
 use Rattle.script.proofs.table.with_none.Goals as goal
 
-pub returns-in-default : goal.returns-in-default
-returns-in-default c = absent table c.args.word.now [] (c.in-default.not-held, tt)
+pub returns-in_default : goal.returns-in_default
+returns-in_default c = absent table c.args.word.now [] (c.in_default.not-held, tt)

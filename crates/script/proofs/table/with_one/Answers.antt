@@ -3,5 +3,5 @@ use Rattle.script.specs.Lines.{table}
 use Rattle.script.proofs.Tables.{absent}
 use Rattle.script.proofs.table.with_one.Goals as goal
 
-pub returns-in-default : goal.returns-in-default
-returns-in-default c = absent table c.args.word.now (c.args.a ∷ []) (c.in-default.not-row, (c.in-default.not-IsTable, (c.in-default.not-Free, (c.in-default.not-length, (c.in-default.not-refuse, (c.in-default.not-room, tt))))))
+pub returns-in_default : goal.returns-in_default
+returns-in_default c = absent table c.args.word.now (c.args.a ∷ []) (c.in_default.not-row, (c.in_default.not-table, (c.in_default.not-free, (c.in_default.not-length, (c.in_default.not-refuse, (c.in_default.not-room, tt))))))

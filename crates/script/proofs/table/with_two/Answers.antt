@@ -3,5 +3,5 @@ use Rattle.script.specs.Lines.{table}
 use Rattle.script.proofs.Tables.{absent}
 use Rattle.script.proofs.table.with_two.Goals as goal
 
-pub returns-in-default : goal.returns-in-default
-returns-in-default c = absent table c.args.word.now (c.args.a ∷ c.args.b ∷ []) (c.in-default.not_at, (c.in-default.not-delete, (c.in-default.not-join, (c.in-default.not-get, (c.in-default.not-drop, (c.in-default.not_least, (c.in-default.not-count, (c.in-default.not-nth, (c.in-default.not-merge, tt)))))))))
+pub returns-in_default : goal.returns-in_default
+returns-in_default c = absent table c.args.word.now (c.args.a ∷ c.args.b ∷ []) (c.in_default.not-at, (c.in_default.not-delete, (c.in_default.not-join, (c.in_default.not-get, (c.in_default.not-drop, (c.in_default.not-least, (c.in_default.not-count, (c.in_default.not-nth, (c.in_default.not-merge, tt)))))))))

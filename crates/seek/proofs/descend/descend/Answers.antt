@@ -27,8 +27,8 @@ push-requires g c = omega (arith, going_depth _ _ _ _ _ _ _ _ _ _ _ _ c.loop-lev
 pub run_on-full-requires : goal.run_on-full-requires
 run_on-full-requires g c = going_short _ _ _ _ _ _ _ _ _ _ _ _ c.loop-level.invariant
 
-pub overflow-cast-b : goal.overflow-cast-b
-overflow-cast-b g c =
+pub overflow_cast-b : goal.overflow_cast-b
+overflow_cast-b g c =
     let p = c.choose_child-step.ensures.chosen in
     record { fits = omega (arith, p.block, child_small _ _ _ _ _ _ _ _ _ _ _ _ c.loop-level.invariant c.loop-level-test.true _ refl _ c.choose_child-step.result.rest _ p.child (λ d. get_or_default _ _ none d p.child)) }
 
@@ -51,7 +51,7 @@ run_on-requires g c = going_short _ _ _ _ _ _ _ _ _ _ _ _ c.loop-level.invariant
 pub returns : goal.returns
 returns g c =
     let ws = (g.W.Store.memory c.loop-level.m).block c.loop-level.b in
-    let n = first_word g.Leaf.Codec.width g.Leaf.Codec.decode g.K.Kind.layout.items g.met.K.Kind.leaves ws in
+    let n = first_word g.K.Leaf.Codec.width g.K.Leaf.Codec.decode g.K.Kind.layout.items g.met.K.Kind.leaves ws in
     let low : c.loop-level.level ≡ 0 = omega arith in
     going_end _ _ _ c.args.t _ _ _ _ _ _ _ c.loop-level.invariant c.requires.tall low c.run_on.result
     (c.run_on.ensures ∙ ap₂ (λ (x y : ℕ). run_after c.loop-level.full x y) (c.number_of_entries-items.ensures.0 ∙ sym n) c.leaf_cap.ensures) _ c.number_of_entries-items.ensures.1

@@ -7,7 +7,7 @@ load_page-requires g c =
     record {
       asks = c.requires.asks;
       there = c.requires.there;
-      fits = page_fits g.Leaf.Codec.width g.Leaf.Codec.decode g.K.Kind.layout.items g.met.K.Kind.leaves g.K.Kind.layout.leaf_cap g.met.K.Kind.leafFits ((g.W.Store.memory c.args.m.now).block c.args.b) c.requires.few;
+      fits = page_fits g.K.Leaf.Codec.width g.K.Leaf.Codec.decode g.K.Kind.layout.items g.met.K.Kind.leaves g.K.Kind.layout.leaf_cap g.met.K.Kind.leafFits ((g.W.Store.memory c.args.m.now).block c.args.b) c.requires.few;
     }
 
 pub returns : goal.returns
@@ -15,6 +15,6 @@ returns g c =
     let ws = (g.W.Store.memory c.args.m.now).block c.args.b in
     record {
       after = c.load_page.ensures.after ∙ sym (g.met.K.Kind.leaves ws);
-      len = c.load_page.ensures.len ∙ sym (first_word g.Leaf.Codec.width g.Leaf.Codec.decode g.K.Kind.layout.items g.met.K.Kind.leaves ws);
+      len = c.load_page.ensures.len ∙ sym (first_word g.K.Leaf.Codec.width g.K.Leaf.Codec.decode g.K.Kind.layout.items g.met.K.Kind.leaves ws);
       same = c.load_page.ensures.same;
     }

@@ -21,7 +21,7 @@ pub returns-then-t-eq1 : goal.returns-then-t-eq1
 returns-then-t-eq1 g c =
     let w = top_leaf g.K.Kind.layout _ _ _ c.if-t-eq1.true c.requires.lies.stands in
     record {
-      value = c.number_of_entries.ensures.0 ∙ sym (ap length w.held ∙ first_word g.Leaf.Codec.width g.Leaf.Codec.decode g.K.Kind.layout.items g.met.K.Kind.leaves _);
+      value = c.number_of_entries.ensures.0 ∙ sym (ap length w.held ∙ first_word g.K.Leaf.Codec.width g.K.Leaf.Codec.decode g.K.Kind.layout.items g.met.K.Kind.leaves _);
       same = reading_asked _ 1 _ _ (omega arith) c.number_of_entries.ensures.1;
     }
 
@@ -29,7 +29,7 @@ pub total-requires : goal.total-requires
 total-requires g c =
     let tall : 2 ≤ c.args.t.height = omega arith in
     let w = top_node g.K.Kind.layout _ _ _ tall c.requires.lies.stands in
-    let few = few_entries g.K.Kind.layout.leaf_cap g.Leaf.Codec.width 62 g.met.Leaf.Codec.some g.met.K.Kind.leafFits in
+    let few = few_entries g.K.Kind.layout.leaf_cap g.K.Leaf.Codec.width 62 g.met.K.Leaf.Codec.some g.met.K.Kind.leafFits in
     record {
       asks = c.requires.asks;
       there = w.there;

@@ -25,8 +25,8 @@ child_count-sum-requires g c =
       inside = omega (arith, s, n.value);
     }
 
-pub overflow-add-sum : goal.overflow-add-sum
-overflow-add-sum g c =
+pub overflow_add-sum : goal.overflow_add-sum
+overflow_add-sum g c =
     let n = c.number_of_children-children.ensures in
     let e = c.loop-i.invariant.0 in
     let k = c.child_count-sum.ensures.value ∙ ap (λ (ws : List ℕ). (get_or (g.K.Kind.layout.children ws) c.loop-i.i none).count) (asked_page _ _ _ _ n.same e c.args.b) in

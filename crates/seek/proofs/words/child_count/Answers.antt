@@ -3,9 +3,9 @@ use Rattle.tree.proofs.Words.{Nodes, nodes_read}
 use Rattle.seek.proofs.words.child_count.Given as given
 use Rattle.seek.proofs.words.child_count.Goals as goal
 
-nodes : (g : given.Over) → Nodes g.K.Kind.layout g.Node.Codec.width
+nodes : (g : given.Over) → Nodes g.K.Kind.layout g.K.Node.Codec.width
 nodes g =
-    nodes_read _ _ g.Node.Codec.decode g.Node.Codec.encode g.Node.Codec.valid g.met.Node.Codec.sized g.met.Node.Codec.back
+    nodes_read _ _ g.K.Node.Codec.decode g.K.Node.Codec.encode g.K.Node.Codec.valid g.met.K.Node.Codec.sized g.met.K.Node.Codec.back
     g.met.K.Kind.entriesValid g.met.K.Kind.blockAt g.met.K.Kind.nodes g.met.K.Kind.countAt g.met.K.Kind.nodeFits
 
 pub entry_word-word-requires : goal.entry_word-word-requires

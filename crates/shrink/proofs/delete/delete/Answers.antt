@@ -8,7 +8,7 @@ use Rattle.shrink.proofs.delete.delete.Goals as goal
 pub descend-reached-requires : goal.descend-reached-requires
 descend-reached-requires g c =
     let K = g.K.Kind.layout in
-    let narrow = few_entries K.leaf_cap g.Leaf.Codec.width 62 g.met.Leaf.Codec.some g.met.K.Kind.leafFits in
+    let narrow = few_entries K.leaf_cap g.K.Leaf.Codec.width 62 g.met.K.Leaf.Codec.some g.met.K.Kind.leafFits in
     record {
       lies = c.requires.lies;
       tall = tall K g.met.K.Kind.lawful g.met.K.Kind.wide narrow _ c.args.t c.args.at c.requires.lies c.requires.place c.requires.asks;
@@ -41,7 +41,7 @@ climb-top-requires g c =
     let K = g.K.Kind.layout in
     let lw = g.met.K.Kind.lawful in
     let wide = g.met.K.Kind.wide in
-    let narrow = few_entries K.leaf_cap g.Leaf.Codec.width 62 g.met.Leaf.Codec.some g.met.K.Kind.leafFits in
+    let narrow = few_entries K.leaf_cap g.K.Leaf.Codec.width 62 g.met.K.Leaf.Codec.some g.met.K.Kind.leafFits in
     let m = g.W.Store.memory c.args.m.now in (
       start K lw wide narrow m c.args.t c.args.at c.requires.lies c.requires.place c.requires.asks,
       code_begun K lw wide narrow m c.args.t c.args.at c.requires.lies c.requires.place c.requires.asks _ _ _ _ c.descend-reached.ensures c.load_leaf-page.ensures.same
@@ -53,7 +53,7 @@ trim-requires g c =
     let K = g.K.Kind.layout in
     let lw = g.met.K.Kind.lawful in
     let wide = g.met.K.Kind.wide in
-    let narrow = few_entries K.leaf_cap g.Leaf.Codec.width 62 g.met.Leaf.Codec.some g.met.K.Kind.leafFits in
+    let narrow = few_entries K.leaf_cap g.K.Leaf.Codec.width 62 g.met.K.Leaf.Codec.some g.met.K.Kind.leafFits in
     let m = g.W.Store.memory c.args.m.now in
     let z = start K lw wide narrow m c.args.t c.args.at c.requires.lies c.requires.place c.requires.asks in
     let v = code_begun K lw wide narrow m c.args.t c.args.at c.requires.lies c.requires.place c.requires.asks _ _ _ _ c.descend-reached.ensures c.load_leaf-page.ensures.same
@@ -65,7 +65,7 @@ returns g c =
     let K = g.K.Kind.layout in
     let lw = g.met.K.Kind.lawful in
     let wide = g.met.K.Kind.wide in
-    let narrow = few_entries K.leaf_cap g.Leaf.Codec.width 62 g.met.Leaf.Codec.some g.met.K.Kind.leafFits in
+    let narrow = few_entries K.leaf_cap g.K.Leaf.Codec.width 62 g.met.K.Leaf.Codec.some g.met.K.Kind.leafFits in
     let m = g.W.Store.memory c.args.m.now in
     let z = start K lw wide narrow m c.args.t c.args.at c.requires.lies c.requires.place c.requires.asks in
     let v = code_begun K lw wide narrow m c.args.t c.args.at c.requires.lies c.requires.place c.requires.asks _ _ _ _ c.descend-reached.ensures c.load_leaf-page.ensures.same

@@ -10,13 +10,13 @@ store_page-requires g c = record { asks = c.requires.asks; there = c.requires.th
 
 pub returns-then-is_low : goal.returns-then-is_low
 returns-then-is_low g c =
-    put_none (imaged g.Node.Codec.width g.Node.Codec.decode) g.K.Kind.layout.children g.met.K.Kind.nodes (entry_of g.K.Kind.layout) _ c.args.b _ _ _ c.store_page.ensures c.len.result c.node_cap.result
-    (length_entries g.Node.Codec.width g.Node.Codec.decode c.args.page.now ∙ sym c.len.ensures.0) c.node_cap.ensures (c.is_low.ensures.low c.if-is_low.true)
+    put_none (imaged g.K.Node.Codec.width g.K.Node.Codec.decode) g.K.Kind.layout.children g.met.K.Kind.nodes (entry_of g.K.Kind.layout) _ c.args.b _ _ _ c.store_page.ensures c.len.result c.node_cap.result
+    (length_entries g.K.Node.Codec.width g.K.Node.Codec.decode c.args.page.now ∙ sym c.len.ensures.0) c.node_cap.ensures (c.is_low.ensures.low c.if-is_low.true)
 
 pub node_entry-requires : goal.node_entry-requires
 node_entry-requires g c = record { some = omega (arith, c.is_low.ensures.full c.if-is_low.false, c.node_cap.ensures, g.met.K.Kind.lawful.node_room, c.len.ensures.0); few = c.requires.counts }
 
 pub returns : goal.returns
 returns g c =
-    put_some (imaged g.Node.Codec.width g.Node.Codec.decode) g.K.Kind.layout.children g.met.K.Kind.nodes (entry_of g.K.Kind.layout) _ c.args.b _ _ _ c.store_page.ensures c.len.result c.node_cap.result
-    (length_entries g.Node.Codec.width g.Node.Codec.decode c.args.page.now ∙ sym c.len.ensures.0) c.node_cap.ensures (c.is_low.ensures.full c.if-is_low.false) _ c.node_entry.ensures.value
+    put_some (imaged g.K.Node.Codec.width g.K.Node.Codec.decode) g.K.Kind.layout.children g.met.K.Kind.nodes (entry_of g.K.Kind.layout) _ c.args.b _ _ _ c.store_page.ensures c.len.result c.node_cap.result
+    (length_entries g.K.Node.Codec.width g.K.Node.Codec.decode c.args.page.now ∙ sym c.len.ensures.0) c.node_cap.ensures (c.is_low.ensures.full c.if-is_low.false) _ c.node_entry.ensures.value

@@ -9,7 +9,7 @@ use Rattle.shrink.proofs.share.share_leaves.Goals as goal
 
 pub even-right-requires : goal.even-right-requires
 even-right-requires g c =
-    let x = leaves_apart g.K.Kind.layout g.Leaf.Codec.decode g.Leaf.Codec.width c.leaf_cap.result c.args.a c.args.b (g.W.Store.memory c.args.m.now) g.met.K.Kind.leaves g.met.K.Kind.leafFits c.leaf_cap.ensures c.requires.neighbours in
+    let x = leaves_apart g.K.Kind.layout g.K.Leaf.Codec.decode g.K.Leaf.Codec.width c.leaf_cap.result c.args.a c.args.b (g.W.Store.memory c.args.m.now) g.met.K.Kind.leaves g.met.K.Kind.leafFits c.leaf_cap.ensures c.requires.neighbours in
     record { asks = c.requires.asks; left = x.left; right = x.right; apart = x.apart; left_few = x.left_few; right_few = x.right_few; room = x.room; held = x.held }
 
 pub leaf_entry-one-requires : goal.leaf_entry-one-requires
@@ -17,8 +17,8 @@ leaf_entry-one-requires g c =
     let some : 0 < half c.leaf_cap.result = omega (arith, c.leaf_cap.ensures, g.met.K.Kind.lawful.leaf_room) in
     omega (
       arith,
-      length_entries g.Leaf.Codec.width g.Leaf.Codec.decode c.even-right.result.0,
-      first_some (entries g.Leaf.Codec.width g.Leaf.Codec.decode) (imaged g.Leaf.Codec.width g.Leaf.Codec.decode) g.K.Kind.layout.items g.met.K.Kind.leaves c.leaf_cap.result c.args.a c.args.b (g.W.Store.memory c.args.m.now) (g.W.Store.memory c.even-right.new.m) c.even-right.result.0 c.even-right.result.1 c.even-right.ensures
+      length_entries g.K.Leaf.Codec.width g.K.Leaf.Codec.decode c.even-right.result.0,
+      first_some (entries g.K.Leaf.Codec.width g.K.Leaf.Codec.decode) (imaged g.K.Leaf.Codec.width g.K.Leaf.Codec.decode) g.K.Kind.layout.items g.met.K.Kind.leaves c.leaf_cap.result c.args.a c.args.b (g.W.Store.memory c.args.m.now) (g.W.Store.memory c.even-right.new.m) c.even-right.result.0 c.even-right.result.1 c.even-right.ensures
           some (leaves_enough g.K.Kind.layout g.met.K.Kind.lawful c.args.a c.args.b (g.W.Store.memory c.args.m.now) c.leaf_cap.result c.leaf_cap.ensures c.requires.neighbours),
     )
 
@@ -27,8 +27,8 @@ leaf_entry-requires g c =
     let some : 0 < half c.leaf_cap.result = omega (arith, c.leaf_cap.ensures, g.met.K.Kind.lawful.leaf_room) in
     omega (
       arith,
-      length_entries g.Leaf.Codec.width g.Leaf.Codec.decode c.in-Some.right,
-      second_some (entries g.Leaf.Codec.width g.Leaf.Codec.decode) (imaged g.Leaf.Codec.width g.Leaf.Codec.decode) g.K.Kind.layout.items g.met.K.Kind.leaves c.leaf_cap.result c.args.a c.args.b (g.W.Store.memory c.args.m.now) (g.W.Store.memory c.even-right.new.m) c.even-right.result.0 c.even-right.result.1 c.even-right.ensures
+      length_entries g.K.Leaf.Codec.width g.K.Leaf.Codec.decode c.in-Some.right,
+      second_some (entries g.K.Leaf.Codec.width g.K.Leaf.Codec.decode) (imaged g.K.Leaf.Codec.width g.K.Leaf.Codec.decode) g.K.Kind.layout.items g.met.K.Kind.leaves c.leaf_cap.result c.args.a c.args.b (g.W.Store.memory c.args.m.now) (g.W.Store.memory c.even-right.new.m) c.even-right.result.0 c.even-right.result.1 c.even-right.ensures
           c.in-Some.right c.in-Some.is some,
     )
 
@@ -37,7 +37,7 @@ returns-in-Some g c =
     let K = g.K.Kind.layout in
     let m = g.W.Store.memory c.args.m.now in
     let n = g.W.Store.memory c.even-right.new.m in
-    to_two (entries g.Leaf.Codec.width g.Leaf.Codec.decode) (imaged g.Leaf.Codec.width g.Leaf.Codec.decode) K.items g.met.K.Kind.leaves c.leaf_cap.result c.args.a c.args.b m n c.even-right.result.0 c.even-right.result.1 c.even-right.ensures
+    to_two (entries g.K.Leaf.Codec.width g.K.Leaf.Codec.decode) (imaged g.K.Leaf.Codec.width g.K.Leaf.Codec.decode) K.items g.met.K.Kind.leaves c.leaf_cap.result c.args.a c.args.b m n c.even-right.result.0 c.even-right.result.1 c.even-right.ensures
     c.in-Some.right c.in-Some.is (entry_of_leaf K) (λ ns. Shared K share_asks 0 c.args.a c.args.b m ns n)
     (λ xs ys p. leaves_shared_two K g.met.K.Kind.lawful c.args.a c.args.b m c.leaf_cap.result n xs ys c.leaf_cap.ensures c.requires.neighbours p)
     _ _ c.leaf_entry-one.ensures.value c.leaf_entry.ensures.value
@@ -47,7 +47,7 @@ returns-in-None g c =
     let K = g.K.Kind.layout in
     let m = g.W.Store.memory c.args.m.now in
     let n = g.W.Store.memory c.even-right.new.m in
-    to_one (entries g.Leaf.Codec.width g.Leaf.Codec.decode) (imaged g.Leaf.Codec.width g.Leaf.Codec.decode) K.items g.met.K.Kind.leaves c.leaf_cap.result c.args.a c.args.b m n c.even-right.result.0 c.even-right.result.1 c.even-right.ensures
+    to_one (entries g.K.Leaf.Codec.width g.K.Leaf.Codec.decode) (imaged g.K.Leaf.Codec.width g.K.Leaf.Codec.decode) K.items g.met.K.Kind.leaves c.leaf_cap.result c.args.a c.args.b m n c.even-right.result.0 c.even-right.result.1 c.even-right.ensures
     c.in-None.is (entry_of_leaf K) (λ ns. Shared K share_asks 0 c.args.a c.args.b m ns n)
     (λ xs p. leaves_shared K g.met.K.Kind.lawful c.args.a c.args.b m c.leaf_cap.result n xs c.leaf_cap.ensures c.requires.neighbours p)
     _ c.leaf_entry-one.ensures.value

@@ -11,7 +11,7 @@ use Rattle.shrink.proofs.share.share_nodes.Goals as goal
 
 pub even-right-requires : goal.even-right-requires
 even-right-requires g c =
-    let x = nodes_apart g.K.Kind.layout g.Node.Codec.decode g.Node.Codec.width c.node_cap.result c.requires.neighbours.0 c.args.a c.args.b (g.W.Store.memory c.args.m.now) g.met.K.Kind.nodes g.met.K.Kind.nodeFits c.node_cap.ensures c.requires.neighbours.1 in
+    let x = nodes_apart g.K.Kind.layout g.K.Node.Codec.decode g.K.Node.Codec.width c.node_cap.result c.requires.neighbours.0 c.args.a c.args.b (g.W.Store.memory c.args.m.now) g.met.K.Kind.nodes g.met.K.Kind.nodeFits c.node_cap.ensures c.requires.neighbours.1 in
     record { asks = c.requires.asks; left = x.left; right = x.right; apart = x.apart; left_few = x.left_few; right_few = x.right_few; room = x.room; held = x.held }
 
 pub node_entry-one-requires : goal.node_entry-one-requires
@@ -23,14 +23,14 @@ node_entry-one-requires g c =
     record {
       some = omega (
         arith,
-        length_entries g.Node.Codec.width g.Node.Codec.decode c.even-right.result.0,
-        first_some (entries g.Node.Codec.width g.Node.Codec.decode) (imaged g.Node.Codec.width g.Node.Codec.decode) K.children g.met.K.Kind.nodes c.node_cap.result c.args.a c.args.b m n c.even-right.result.0 c.even-right.result.1 c.even-right.ensures
+        length_entries g.K.Node.Codec.width g.K.Node.Codec.decode c.even-right.result.0,
+        first_some (entries g.K.Node.Codec.width g.K.Node.Codec.decode) (imaged g.K.Node.Codec.width g.K.Node.Codec.decode) K.children g.met.K.Kind.nodes c.node_cap.result c.args.a c.args.b m n c.even-right.result.0 c.even-right.result.1 c.even-right.ensures
             some (nodes_enough K g.met.K.Kind.lawful c.args.a c.args.b m c.node_cap.result c.requires.neighbours.0 c.node_cap.ensures c.requires.neighbours.1),
       );
       few = omega (
         arith,
         counts_both K share_asks c.args.a c.args.b m g.met.K.Kind.lawful c.requires.neighbours.0 c.requires.neighbours.1,
-        first_part (entries g.Node.Codec.width g.Node.Codec.decode) (imaged g.Node.Codec.width g.Node.Codec.decode) K.children g.met.K.Kind.nodes c.node_cap.result c.args.a c.args.b m n c.even-right.result.0 c.even-right.result.1 c.even-right.ensures counts counts_append,
+        first_part (entries g.K.Node.Codec.width g.K.Node.Codec.decode) (imaged g.K.Node.Codec.width g.K.Node.Codec.decode) K.children g.met.K.Kind.nodes c.node_cap.result c.args.a c.args.b m n c.even-right.result.0 c.even-right.result.1 c.even-right.ensures counts counts_append,
       );
     }
 
@@ -43,14 +43,14 @@ node_entry-requires g c =
     record {
       some = omega (
         arith,
-        length_entries g.Node.Codec.width g.Node.Codec.decode c.in-Some.right,
-        second_some (entries g.Node.Codec.width g.Node.Codec.decode) (imaged g.Node.Codec.width g.Node.Codec.decode) K.children g.met.K.Kind.nodes c.node_cap.result c.args.a c.args.b m n c.even-right.result.0 c.even-right.result.1 c.even-right.ensures
+        length_entries g.K.Node.Codec.width g.K.Node.Codec.decode c.in-Some.right,
+        second_some (entries g.K.Node.Codec.width g.K.Node.Codec.decode) (imaged g.K.Node.Codec.width g.K.Node.Codec.decode) K.children g.met.K.Kind.nodes c.node_cap.result c.args.a c.args.b m n c.even-right.result.0 c.even-right.result.1 c.even-right.ensures
             c.in-Some.right c.in-Some.is some,
       );
       few = omega (
         arith,
         counts_both K share_asks c.args.a c.args.b m g.met.K.Kind.lawful c.requires.neighbours.0 c.requires.neighbours.1,
-        second_part (entries g.Node.Codec.width g.Node.Codec.decode) (imaged g.Node.Codec.width g.Node.Codec.decode) K.children g.met.K.Kind.nodes c.node_cap.result c.args.a c.args.b m n c.even-right.result.0 c.even-right.result.1 c.even-right.ensures
+        second_part (entries g.K.Node.Codec.width g.K.Node.Codec.decode) (imaged g.K.Node.Codec.width g.K.Node.Codec.decode) K.children g.met.K.Kind.nodes c.node_cap.result c.args.a c.args.b m n c.even-right.result.0 c.even-right.result.1 c.even-right.ensures
             c.in-Some.right c.in-Some.is counts counts_append,
       );
     }
@@ -60,7 +60,7 @@ returns-in-Some g c = λ h v.
     let K = g.K.Kind.layout in
     let m = g.W.Store.memory c.args.m.now in
     let n = g.W.Store.memory c.even-right.new.m in
-    to_two (entries g.Node.Codec.width g.Node.Codec.decode) (imaged g.Node.Codec.width g.Node.Codec.decode) K.children g.met.K.Kind.nodes c.node_cap.result c.args.a c.args.b m n c.even-right.result.0 c.even-right.result.1 c.even-right.ensures
+    to_two (entries g.K.Node.Codec.width g.K.Node.Codec.decode) (imaged g.K.Node.Codec.width g.K.Node.Codec.decode) K.children g.met.K.Kind.nodes c.node_cap.result c.args.a c.args.b m n c.even-right.result.0 c.even-right.result.1 c.even-right.ensures
     c.in-Some.right c.in-Some.is (entry_of K) (λ ns. Shared K share_asks (suc h) c.args.a c.args.b m ns n)
     (λ xs ys p. nodes_shared_two K g.met.K.Kind.lawful c.args.a c.args.b m c.node_cap.result h n xs ys c.node_cap.ensures v p)
     _ _ c.node_entry-one.ensures.value c.node_entry.ensures.value
@@ -70,7 +70,7 @@ returns-in-None g c = λ h v.
     let K = g.K.Kind.layout in
     let m = g.W.Store.memory c.args.m.now in
     let n = g.W.Store.memory c.even-right.new.m in
-    to_one (entries g.Node.Codec.width g.Node.Codec.decode) (imaged g.Node.Codec.width g.Node.Codec.decode) K.children g.met.K.Kind.nodes c.node_cap.result c.args.a c.args.b m n c.even-right.result.0 c.even-right.result.1 c.even-right.ensures
+    to_one (entries g.K.Node.Codec.width g.K.Node.Codec.decode) (imaged g.K.Node.Codec.width g.K.Node.Codec.decode) K.children g.met.K.Kind.nodes c.node_cap.result c.args.a c.args.b m n c.even-right.result.0 c.even-right.result.1 c.even-right.ensures
     c.in-None.is (entry_of K) (λ ns. Shared K share_asks (suc h) c.args.a c.args.b m ns n)
     (λ xs p. nodes_shared K g.met.K.Kind.lawful c.args.a c.args.b m c.node_cap.result h n xs c.node_cap.ensures v p)
     _ c.node_entry-one.ensures.value

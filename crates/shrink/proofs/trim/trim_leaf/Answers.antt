@@ -13,7 +13,7 @@ get-requires g c =
 pub returns-then-get-gt0 : goal.returns-then-get-gt0
 returns-then-get-gt0 g c = λ z v.
     code_leaf_stays g.K.Kind.layout g.met.K.Kind.lawful z _ _ _ v c.requires.height _ c.get.ensures.1
-    (omega (arith, c.if-get-gt0.true, c.get.ensures.0, first_word g.Leaf.Codec.width g.Leaf.Codec.decode g.K.Kind.layout.items g.met.K.Kind.leaves ((g.W.Store.memory c.args.m.now).block c.args.t.root)))
+    (omega (arith, c.if-get-gt0.true, c.get.ensures.0, first_word g.K.Leaf.Codec.width g.K.Leaf.Codec.decode g.K.Kind.layout.items g.met.K.Kind.leaves ((g.W.Store.memory c.args.m.now).block c.args.t.root)))
 
 pub release-requires : goal.release-requires
 release-requires g c =
@@ -28,4 +28,4 @@ release-requires g c =
 pub returns : goal.returns
 returns g c = λ z v.
     code_leaf_gone g.K.Kind.layout g.met.K.Kind.lawful z _ _ _ v c.requires.height _ _ c.get.ensures.1 c.release.ensures
-    (omega (arith, c.if-get-gt0.false, c.get.ensures.0, first_word g.Leaf.Codec.width g.Leaf.Codec.decode g.K.Kind.layout.items g.met.K.Kind.leaves ((g.W.Store.memory c.args.m.now).block c.args.t.root)))
+    (omega (arith, c.if-get-gt0.false, c.get.ensures.0, first_word g.K.Leaf.Codec.width g.K.Leaf.Codec.decode g.K.Kind.layout.items g.met.K.Kind.leaves ((g.W.Store.memory c.args.m.now).block c.args.t.root)))

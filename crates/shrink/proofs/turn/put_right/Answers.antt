@@ -18,7 +18,7 @@ enter-requires g c =
     let v = c.requires.1 in
     record {
       there = omega (arith, turn_inside K lw c.requires.0 _ _ _ _ _ v, c.load_node-page.ensures.len);
-      valid = child_valid K g.Node.Codec.valid g.met.K.Kind.entriesValid _ _ _ (turn_child K lw c.requires.0 _ _ _ _ _ v c.in-Some.entry c.in-Some.is);
+      valid = child_valid K g.K.Node.Codec.valid g.met.K.Kind.entriesValid _ _ _ (turn_child K lw c.requires.0 _ _ _ _ _ v c.in-Some.entry c.in-Some.is);
     }
 
 pub returns-in-Some : goal.returns-in-Some

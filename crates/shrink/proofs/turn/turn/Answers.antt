@@ -14,7 +14,7 @@ put_node-requires g c =
     record {
       asks = ready_left K lw c.requires.0.start c.requires.0.level _ c.requires.0.above _ _ r;
       there = r.there;
-      few = omega (arith, r.few, length_entries g.Node.Codec.width g.Node.Codec.decode c.put_right-page.result);
+      few = omega (arith, r.few, length_entries g.K.Node.Codec.width g.K.Node.Codec.decode c.put_right-page.result);
       counts = ready_counts K lw c.requires.0.start c.requires.0.level _ c.requires.0.above _ _ r;
     }
 

@@ -2,8 +2,8 @@ use Rattle.std.proofs.Common.{◌≡◌, ◌+◌, ◌*◌, ◌<◌, ◌≤◌, g
 use Rattle.tree.proofs.Imaging.{few_entries, same_word, same_image, reading_two}
 use Rattle.tree.proofs.pages.load_page.Goals as goal
 
-pub overflow-cast-n : goal.overflow-cast-n
-overflow-cast-n g c =
+pub overflow_cast-n : goal.overflow_cast-n
+overflow_cast-n g c =
     let h : c.get-n.result * g.C.Codec.width ≤ 62 = rw c.get-n.ensures.0 c.requires.fits in
     record { fits = omega (arith, few_entries c.get-n.result g.C.Codec.width 62 g.met.C.Codec.some h) }
 

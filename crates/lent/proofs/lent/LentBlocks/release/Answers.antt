@@ -30,7 +30,14 @@ invariant_of-self c =
     let e = c.push.ensures.numbers in
     let k = c.push.ensures.count in
     let long : length c.push.new.self.numbers.now ≡ length xs = ap length e ∙ length-set xs n b in
-    (h.fits, (h.few, (omega arith, (omega (arith, h.room), (pushed_low xs n b lt e k h.size h.low below, (pushed_apart xs n b lt e k free h.apart, tt))))))
+    record {
+      fits = h.fits;
+      few = h.few;
+      within = omega arith;
+      room = omega (arith, h.room);
+      low = pushed_low xs n b lt e k h.size h.low below;
+      apart = pushed_apart xs n b lt e k free h.apart;
+    }
 
 pub returns : goal.returns
 returns c =

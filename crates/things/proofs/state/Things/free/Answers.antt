@@ -5,17 +5,17 @@ use Rattle.things.proofs.Serving.{free_turned}
 use Rattle.things.proofs.Closing.{free_cleared}
 use Rattle.things.proofs.state.Things.free.Goals as goal
 
-pub returns-in-err-find : goal.returns-in-err-find
-returns-in-err-find g c =
-    let p = err_from_is_err_and c.from-residual.result c.from-residual.ensures.1 in
-    rw (p.1, p.2) (free_turned c.args.self.now _ c.args.n c.requires.sound tt c.in-err-find.ensures)
+pub returns-in_err-find : goal.returns-in_err-find
+returns-in_err-find g c =
+    let p = err_from_is_err_and c.from_residual.result c.from_residual.ensures.1 in
+    rw (p.1, p.2) (free_turned c.args.self.now _ c.args.n c.requires.sound tt c.in_err-find.ensures)
 
 pub clear-requires : goal.clear-requires
 clear-requires g c = record {
-  low = found_low c.args.n c.args.self.now c.in-ok-find.ensures;
+  low = found_low c.args.n c.args.self.now c.in_ok-find.ensures;
   sound = c.requires.sound;
   asks = omega (arith, c.requires.enough);
 }
 
 pub returns : goal.returns
-returns g c = free_cleared c.args.n c.args.self.now _ _ _ _ tt c.in-ok-find.ensures c.clear.ensures
+returns g c = free_cleared c.args.n c.args.self.now _ _ _ _ tt c.in_ok-find.ensures c.clear.ensures

@@ -8,25 +8,25 @@ use Rattle.things.proofs.Looking.{still_place}
 use Rattle.things.proofs.Serving.{ready_after, row_lies, set_served, set_no_place, set_turned}
 use Rattle.things.proofs.state.Things.set.Goals as goal
 
-pub returns-in-err-t : goal.returns-in-err-t
-returns-in-err-t g c =
-    let p = err_from_is_err_and c.from-residual.result c.from-residual.ensures.1 in
-    rw (p.1, p.2) (set_turned c.args.self.now _ c.args.n c.requires.sound c.args.i c.args.x tt c.in-err-t.ensures)
+pub returns-in_err-t : goal.returns-in_err-t
+returns-in_err-t g c =
+    let p = err_from_is_err_and c.from_residual.result c.from_residual.ensures.1 in
+    rw (p.1, p.2) (set_turned c.args.self.now _ c.args.n c.requires.sound c.args.i c.args.x tt c.in_err-t.ensures)
 
 pub length-requires : goal.length-requires
-length-requires g c = record { lies = row_lies c.args.n c.args.self.now _ c.requires.sound c.in-ok-t.ensures; asks = omega (arith, c.requires.enough) }
+length-requires g c = record { lies = row_lies c.args.n c.args.self.now _ c.requires.sound c.in_ok-t.ensures; asks = omega (arith, c.requires.enough) }
 
 pub returns-then-i-length : goal.returns-then-i-length
 returns-then-i-length g c =
-    set_no_place c.args.n c.args.self.now _ _ c.in-ok-t.t c.requires.sound c.in-ok-t.ensures
+    set_no_place c.args.n c.args.self.now _ _ c.in_ok-t.t c.requires.sound c.in_ok-t.ensures
     (read_untouched c.length.ensures.same) c.args.i c.args.x tt (omega (arith, c.length.ensures.value))
 
 pub set-requires : goal.set-requires
 set-requires g c =
     let q : Ready 16319 64 c.args.self.now (g.B.Blocks.as_ground c.length.new.m) = ready_after c.requires c.length.ensures.same in
     record {
-      lies = row_lies c.args.n c.args.self.now _ q.sound c.in-ok-t.ensures;
-      there = (still_place _ _ c.length.ensures.same row_layout c.in-ok-t.t c.args.i _ c.length.ensures.value (omega arith));
+      lies = row_lies c.args.n c.args.self.now _ q.sound c.in_ok-t.ensures;
+      there = (still_place _ _ c.length.ensures.same row_layout c.in_ok-t.t c.args.i _ c.length.ensures.value (omega arith));
       alike = λ xs ys. refl;
       asks = omega (arith, q.enough);
     }
@@ -36,5 +36,5 @@ returns g c =
     let q : Ready 16319 64 c.args.self.now (g.B.Blocks.as_ground c.length.new.m) = ready_after c.requires c.length.ensures.same in
     let w = c.set.ensures in
     served_after (read_untouched c.length.ensures.same)
-    (set_served c.args.n _ c.args.i c.args.x c.args.self.now _ _ c.in-ok-t.t tt q.sound c.in-ok-t.ensures
-    (still_place _ _ c.length.ensures.same row_layout c.in-ok-t.t c.args.i _ c.length.ensures.value (omega arith)) w.is w.ran w.stands)
+    (set_served c.args.n _ c.args.i c.args.x c.args.self.now _ _ c.in_ok-t.t tt q.sound c.in_ok-t.ensures
+    (still_place _ _ c.length.ensures.same row_layout c.in_ok-t.t c.args.i _ c.length.ensures.value (omega arith)) w.is w.ran w.stands)

@@ -1,5 +1,6 @@
 // A whole tree is given back, block by block.
 #![tactic(auto)]
+
 ghost use Rattle.std.specs.Prelude.{◌*◌, ◌<◌, ◌≤◌};
 ghost use Rattle.tree.specs.Trees.{Lies};
 ghost use Rattle.clear.specs.Given.{give_asks, tall_blocks, GivenBack};

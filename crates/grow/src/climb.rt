@@ -40,7 +40,7 @@ fn rise<K: Kind, W: Store<M>, M>(
     reserve: &mut Reserve,
 ) -> (Child, Option<Child>)
     requires asks { turn_asks ≤ (W.Store.memory m.old).left }
-    requires ready { Ready K.Kind.layout Node-as-Codec.valid b place (W.Store.memory m.old) reserve.old one two }
+    requires ready { Ready K.Kind.layout K.Node.Codec.valid b place (W.Store.memory m.old) reserve.old one two }
     ensures { Settled K.Kind.layout.children (entry_of K.Kind.layout) K.Kind.layout.node_cap turn_asks b (placed (K.Kind.layout.children ((W.Store.memory m.old).block b)) place one two) (W.Store.memory m.old) reserve.old result.0 result.1 (W.Store.memory m.new) reserve.new }
 {
     let mut page = load_node::<K, W, M>(m, b);

@@ -1,5 +1,6 @@
 // An item comes into a tree: pages split where they are full, into blocks got in advance.
 #![tactic(auto)]
+
 pub mod climb;
 pub mod insert;
 pub mod leaf;

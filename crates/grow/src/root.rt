@@ -22,7 +22,7 @@ fn node_above<K: Kind, W: Store<M>, M>(
     reserve: &mut Reserve,
 ) -> u32
     requires asks { page_asks ≤ (W.Store.memory m.old).left }
-    requires valid { (T (Node-as-Codec.valid one)) × (T (Node-as-Codec.valid other)) }
+    requires valid { (T (K.Node.Codec.valid one)) × (T (K.Node.Codec.valid other)) }
     requires some { 0 < reserve.old.count }
     requires stocked { Stocked (uses reserve.old) (W.Store.memory m.old).block }
     ensures { Above K.Kind.layout page_asks (one ∷ (other ∷ [])) (W.Store.memory m.old) reserve.old result (W.Store.memory m.new) reserve.new }

@@ -1,5 +1,6 @@
 // A script is read line by line, each call is served, and the replies are written.
 #![tactic(auto)]
+
 mod reading;
 mod turns;
 

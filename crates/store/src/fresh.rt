@@ -5,17 +5,10 @@ ghost use Rattle.store.specs.Fresh.{Obtained, Returned};
 
 use crate::Store;
 
+// It is not `Drop`, so no code can let it go.
 pub struct Fresh {
     number: u32,
     ghost small: { number < 1048576 },
-}
-
-impl Drop for Fresh {
-    fn drop(self)
-        requires { ⊥ }
-    {
-        let Fresh { number: _ } = self;
-    }
 }
 
 impl Fresh {

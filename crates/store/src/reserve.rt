@@ -63,4 +63,8 @@ impl Drop for Reserve {
 
 fn drop_none(place: Option<Fresh>)
     requires { is_some place ≡ false }
-{}
+{
+    if let Some(f) = place {
+        let _block = f.into_block();
+    }
+}

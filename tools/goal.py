@@ -1,16 +1,16 @@
 #!/usr/bin/env python3
 """Prints the goal at each hole of a walk by hand: what is known, the context as a numbered list, and the goal.
 
-    rt dev CRATE --allow-holes 2>&1 | python3 tools/goal.py [WIDTH]
+    rt check --allow-holes 2>&1 | python3 tools/goal.py [WIDTH]        in the crate's folder
 """
 import sys, re
 width = int(sys.argv[1]) if len(sys.argv) > 1 else 150
 text = sys.stdin.read()
-SHORT = [r'base\.Fml\.', r'base\.Fraction\.', r'mir\.Syntax\.', r'mir\.Val\.', r'types\.Kit\.', r'denote\.[A-Za-z.]*\.', r'prog\.[A-Za-z]*\.', r'Rattle·[A-Za-z_]*·(specs|proofs)\.([A-Za-z_-]*\.)*', r'lib\.[A-Za-z]*\.', r'mathlib\.Core\.[A-Za-z]*\.', r'Prim\.Native\.Nat\.', r'native\.[A-Za-z.]*\.']
+SHORT = [r'base\.Fml\.', r'base\.Fraction\.', r'base\.Stored\.', r'contract\.[A-Za-z]*\.', r'mir\.Syntax\.', r'mir\.Val\.', r'types\.Kit\.', r'denote\.[A-Za-z.]*\.', r'prog\.[A-Za-z]*\.', r'Rattle\.[a-z_]*\.(specs|proofs)\.([A-Za-z_-]*\.)*', r'lib\.[A-Za-z]*\.', r'mathlib\.Core\.[A-Za-z]*\.', r'Prim\.Native\.Nat\.', r'native\.[A-Za-z.]*\.']
 def short(s):
     for r in SHORT: s = re.sub(r, '', s)
     s = re.sub(r'\s+', ' ', s)
-    s = re.sub(r'\{M = M\} ?', '', s)
+    s = re.sub(r'\{(M = M|𝓤 = 𝓤)\} ?', '', s)
     def name(m):
         ns = [int(x) for x in re.findall(r'\d+', m.group(0))]
         return '"' + ''.join(map(chr, ns)) + '"' if len(ns) > 2 and all(31 < n < 127 for n in ns) else m.group(0)

@@ -1,19 +1,22 @@
 #!/usr/bin/env python3
 """Prints a function's MIR, one statement to a line, numbered as a walk by hand counts them.
 
-    rt goals CRATE                            first: it writes what is to be proved to target/goals/CRATE
-    python3 tools/mir.py CRATE PATH/FUNCTION  as: mir.py heap HeapBlocks/get
+    rt check --allow-holes --generated DIR        first, in the crate's folder, with a DIR outside the repository
+    python3 tools/mir.py DIR CRATE PATH/FUNCTION  as: mir.py /tmp/g heap cells/Cells/read
 
-Run it from the repository's root. The statements of a block, of an arm or of a loop stand indented below it.
+The statements of a block, of an arm or of a loop stand indented below it.
 """
 import re
 import sys
 
-if len(sys.argv) != 3:
+if len(sys.argv) != 4:
     sys.exit(__doc__)
-crate, path = sys.argv[1:]
-text = open("target/goals/%s/Rattle·%s·proofs/%s/Code/Mir.antt" % (crate, crate, path), encoding="utf-8").read()
-text = text.split("abbrev pub table")[0].replace("Syntax.", "").replace("List._∷_", "∷").replace("List.[]", "[]")
+folder, crate, path = sys.argv[1:]
+text = open("%s/Rattle-%s-proofs/%s/Code/Mir.antt" % (folder, crate, path), encoding="utf-8").read()
+text = text.split("abbrev pub table")[0].replace("Syntax.", "").replace("List.◌∷◌", "∷").replace("List.[]", "[]").replace(",", " , ")
+callees = {}
+for route, name in re.findall(r"^use (\S+)\.Symbol(?: as (\S+))?$", text, re.M):
+    callees[(name or "Symbol") + ".name"] = route
 
 
 def parse(source):
@@ -41,7 +44,16 @@ def show(term):
         if len(items) > 2 and all(isinstance(i, str) and i.isdigit() for i in items):
             return '"%s"' % "".join(chr(int(i)) for i in items)
         return "[%s]" % ", ".join(show(i) for i in items)
+    if "," in term:
+        parts, rest = [], list(term)
+        while "," in rest:
+            parts.append(rest[:rest.index(",")])
+            rest = rest[rest.index(",") + 1:]
+        return "(%s)" % ", ".join(show(p[0] if len(p) == 1 else p) for p in parts + [rest] if p)
     head = term[0] if term else ""
+    if head == "call" and len(term) == 4:
+        callee = term[1] if isinstance(term[1], str) else term[1][0]
+        return "call %s %s %s" % (callees.get(callee, callee), show(term[2]), show(term[3]))
     if head == "deref":
         return "deref"
     if head == "place":
@@ -71,6 +83,6 @@ def body(term, depth, label=""):
         print(pad + label + (line[1:-1] if line.startswith("(") else line))
 
 
-for name, value in re.findall(r"^abbrev pub by-name-s-\d+ : Body\s+by-name-s-(\d+) =(.*?)(?=^abbrev pub|\Z)", text, re.S | re.M):
+for name, value in re.findall(r"^abbrev pub by_name-s-\d+ : Body\s+by_name-s-(\d+) =(.*?)(?=^abbrev pub|\Z)", text, re.S | re.M):
     terms = parse(value)
     body(terms[0] if len(terms) == 1 else terms, 0, "%s  " % name)

@@ -1,9 +1,15 @@
 #!/usr/bin/env python3
-"""Brings the repository's own definitions and lemmas to snake case: python3 tools/respell.py [FOLDER]
+"""Brings the spelling of a repository of an older Rattle to today's, after /opt/rattle/port/port.py: python3 tools/respell.py [FOLDER]
 
-Reads which names crates/*/specs and crates/*/proofs/*.antt define, and writes each anew wherever it stands:
-in .antt, .rt and .edit files below crates/. Names that begin with a capital (types, and laws named after them) stay,
-and so do functions of src/, strings and comments of .rt files.
+1. The repository's own definitions and lemmas go to snake case: what crates/*/specs and crates/*/proofs/*.antt define is
+   written anew wherever it stands in .antt, .rt and .edit files. Names that begin with a capital (types, and laws named
+   after them) stay, and so do functions of src/, strings and comments of .rt files.
+2. `ground` is a word that clauses may not use: the ghost member of `Blocks` becomes `as_ground`, the definition `after_asking`.
+3. Ghost members get the bound that they belong to: `W.Store.memory`, `B.Blocks.as_ground`, `C.Codec.width`, `K.Node.Codec`.
+4. In answers and invariants the names that Rattle makes of names of the code keep their underscores.
+5. Each root file gets `#![tactic(auto)]`.
+
+It is kept so that what had landed can be turned again and set beside today's text. Run it once.
 """
 
 import os
@@ -111,8 +117,13 @@ def turned(text, names, is_code):
     return "\n".join(out)
 
 
-def main():
-    root = sys.argv[1] if len(sys.argv) > 1 else "."
+def write(path, text, new):
+    if new != text:
+        with open(path, "w", encoding="utf-8") as f:
+            f.write(new)
+
+
+def respell(root):
     names = {}
     for name in defined(root):
         new = CHOSEN.get(name, snake(name))
@@ -126,14 +137,120 @@ def main():
         if new in seen:
             print(f"is there: {name}: {new} in {sorted(seen[new])[:4]}")
         backward[new] = name
-    if "--look" in sys.argv:
-        return
     for path in files(root, ".antt", ".rt", ".edit"):
         text = read(path)
-        new = turned(text, names, path.endswith(".rt"))
-        if new != text:
-            with open(path, "w", encoding="utf-8") as f:
-                f.write(new)
+        write(path, text, turned(text, names, path.endswith(".rt")))
+
+
+CLAUSE = re.compile(r"(requires|ensures|ghost)\b")
+GROUND = re.compile(r"(?<!\w)ground(?![\w'])")
+ALONE = r"(?<![\w.])%s (?=[a-z])"
+
+
+def is_trait_below(path):
+    """The traits' own files, in which a member stands alone."""
+    return path.endswith(("store/src/lib.rt", "things/src/lib.rt"))
+
+
+def name_ground(path, line):
+    bare = line.strip()
+    if path.endswith(".rt") and not CLAUSE.match(bare) or bare.startswith("--"):
+        return line
+    line = GROUND.sub("as_ground", line)
+    return line.replace(".proofs.as_ground.", ".proofs.ground.").replace("-as_ground", "-ground")
+
+
+def name_bounds(path, line):
+    bare = line.strip()
+    if not bare.startswith(("requires", "ensures")):
+        return line
+    if "/page/src/page/" in path:
+        line = line.replace("entries width decode", "entries C.Codec.width C.Codec.decode")
+    line = line.replace("Node-as-Codec.", "K.Node.Codec.").replace("Leaf-as-Codec.", "K.Leaf.Codec.")
+    if is_trait_below(path):
+        return line
+    line = re.sub(ALONE % "memory", "W.Store.memory ", line)
+    if not re.search(r"/(heap|heaptour|ration|lent)/", path):
+        line = re.sub(ALONE % "as_ground", "B.Blocks.as_ground ", line)
+    return line
+
+
+def turn_things(path, text):
+    """In the trait above `Blocks` its member is named in full, and so is a bound's in `times`."""
+    if not path.endswith("things/src/lib.rt"):
+        return text
+    i, j = text.index("pub trait Bounds"), text.index("// Whoever asks.")
+    text = text[:i] + re.sub(r"(?<![\w.])as_ground", "Self.Blocks.as_ground", text[i:j]) + text[j:]
+    text = text.replace("AtStart (as_ground b.old)", "AtStart (B.Blocks.as_ground b.old)")
+    return text.replace("requires nothing { shelf u.old", "requires nothing { U.Users.shelf u.old")
+
+
+def label_words(root):
+    """The names of the code that have an underscore, as an older Rattle wrote them in what it made."""
+    found = {"copy_from_slice"}
+    for path in files(root, ".rt"):
+        found.update(re.findall(r"\b[a-z][a-z0-9]*(?:_[a-z0-9]+)+\b", read(path)))
+    return {name.replace("_", "-"): name for name in found}
+
+
+def mend_label(labels, token):
+    parts, out, i = token.split("-"), [], 0
+    while i < len(parts):
+        for j in range(len(parts), i, -1):
+            whole = "-".join(parts[i:j])
+            if j > i + 1 and whole in labels:
+                out.append(labels[whole])
+                break
+        else:
+            j = i + 1
+            out.append(parts[i])
+        i = j
+    return "-".join(out)
+
+
+def turn_answers(labels, path, text):
+    out = []
+    for line in text.split("\n"):
+        if not line.startswith("use ") or "Goals" in line:
+            line = re.sub(r"[A-Za-z0-9_'-]+", lambda m: mend_label(labels, m.group(0)), line)
+        out.append(line)
+    text = "\n".join(out).replace("invariant-of-", "invariant_of-").replace("type-inv", "type_inv")
+    text = re.sub(r"\boverflow-(cast|add|mul|sub|div|rem|neg|shl|shr)\b", r"overflow_\1", text)
+    text = re.sub(r"\bin-(ok|err|default)\b", r"in_\1", text.replace("from-residual", "from_residual"))
+    if "/page/" not in path:
+        text = re.sub(r"\bg\.(Leaf|Node|Item)\.", r"g.K.\1.", text)
+        text = re.sub(r"\bg\.met\.(Leaf|Node)\.", r"g.met.K.\1.", text)
+    return text
+
+
+def has_tactic(path, text):
+    if not re.search(r"/crates/\w+/src/(lib|main)\.rt$", path) or "tactic(auto)" in text:
+        return text
+    lines, i = text.split("\n"), 0
+    while lines[i].startswith("//"):
+        i += 1
+    return "\n".join(lines[:i] + ["#![tactic(auto)]", ""] + lines[i:])
+
+
+def turn_members(root):
+    labels = label_words(root)
+    for path in files(root, ".antt", ".rt"):
+        text = read(path)
+        if path.endswith("things/specs/Ground.antt"):
+            new = re.sub(r"(?<![\w.])ground(?= f m g|(?= :)| g\.block| \(at)", "after_asking", text)
+        else:
+            new = "\n".join(name_bounds(path, name_ground(path, line)) for line in text.split("\n"))
+        new = has_tactic(path, turn_things(path, new))
+        parts = os.path.relpath(path, root).split(os.sep)
+        if parts[2] == "proofs" and len(parts) > 4 and parts[-1] != "Proof.antt":
+            new = turn_answers(labels, path, new)
+        write(path, text, new)
+
+
+def main():
+    root = os.path.abspath(sys.argv[1] if len(sys.argv) > 1 else ".")
+    respell(root)
+    turn_members(root)
 
 
 main()

@@ -1,5 +1,6 @@
 // How often a call asks the ground: a row of 10,000 words comes at the front and goes, as in the office's script.
 #![tactic(auto)]
+
 ghost use Rattle.things.specs.Ground.{AtStart};
 ghost use Rattle.ration.specs.Refusing.{ground_of};
 ghost use Rattle.console.specs.Turns.{Ready};

@@ -4,7 +4,6 @@ use seplogic.Ra.Ura.{Ura}
 use base.Fraction.{full_share}
 use base.Logic.{SProp, ent, sep, guard}
 use base.Fml.{Fml, feq, fsep}
-use prog.Memory.{size}
 use types.Logic.{Logic, sem}
 use types.Kit.{‵, ◌⊛◌, ◌$◌, ◌∵◌, !, qed, by, use1, use2, split, rewrite, fsplit, fjoin, feq_i, feq_l, check, done}
 use denote.RattleType.{RattleType}

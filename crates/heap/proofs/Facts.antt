@@ -1,12 +1,10 @@
--- For a contract that states two or three facts. Assumes nothing.
---     says_two, says_three    a goal P ∗ ⌜φ⌝ ∗ ⌜ψ⌝, or with a third: the facts are shown, and P is left
---     two_said, three_said    the facts that a `requires` joins by ∗, as one fact
+-- For a contract that states two facts: says_two shows both in a goal P ∗ ⌜φ⌝ ∗ ⌜ψ⌝, and P is left. Assumes nothing.
 use Rattle.std.proofs.Common.{List}
 use seplogic.Ra.Ura.{Ura}
-use base.Logic.{SProp, ent, sep, emp, via, comm∗, mono_l, mono_r, fst∗, snd∗, emp∗}
+use base.Logic.{SProp, ent, sep, emp, via, comm∗, mono_l, mono_r, emp∗}
 use types.Logic.{Logic}
 use types.Kit.{Item, prop, Step, step}
-use contract.Monad.{fact, fact_i, fact_use}
+use contract.Monad.{fact, fact_i}
 
 module _ {M : Type 1} (𝓤 : Ura M) where
   beside : (φ : Type 0) (F : SProp 𝓤) → φ → ent 𝓤 (emp 𝓤) F → ent 𝓤 (emp 𝓤) (sep 𝓤 (fact 𝓤 φ) F)
@@ -15,22 +13,5 @@ module _ {M : Type 1} (𝓤 : Ura M) where
   added : (P F : SProp 𝓤) → ent 𝓤 (emp 𝓤) F → ent 𝓤 P (sep 𝓤 P F)
   added P F f = via 𝓤 (sep 𝓤 (emp 𝓤) P) (emp∗ 𝓤 P) (via 𝓤 (sep 𝓤 F P) (mono_l 𝓤 P f) (comm∗ 𝓤 F P))
 
-  pub two_said : (φ ψ : Type 0) → ent 𝓤 (sep 𝓤 (fact 𝓤 φ) (fact 𝓤 ψ)) (fact 𝓤 (φ × ψ))
-  two_said φ ψ =
-      fact_use 𝓤 φ (fst∗ 𝓤 (fact 𝓤 φ) (fact 𝓤 ψ)) (λ x.
-      fact_use 𝓤 ψ (snd∗ 𝓤 (fact 𝓤 φ) (fact 𝓤 ψ)) (λ y.
-      fact_i 𝓤 (φ × ψ) (sep 𝓤 (fact 𝓤 φ) (fact 𝓤 ψ)) (x, y)))
-
-  pub three_said : (φ ψ χ : Type 0) → ent 𝓤 (sep 𝓤 (fact 𝓤 φ) (sep 𝓤 (fact 𝓤 ψ) (fact 𝓤 χ))) (fact 𝓤 (φ × (ψ × χ)))
-  three_said φ ψ χ =
-      let R : SProp 𝓤 = sep 𝓤 (fact 𝓤 ψ) (fact 𝓤 χ) in
-      fact_use 𝓤 φ (fst∗ 𝓤 (fact 𝓤 φ) R) (λ x.
-      fact_use 𝓤 ψ (via 𝓤 R (snd∗ 𝓤 (fact 𝓤 φ) R) (fst∗ 𝓤 (fact 𝓤 ψ) (fact 𝓤 χ))) (λ y.
-      fact_use 𝓤 χ (via 𝓤 R (snd∗ 𝓤 (fact 𝓤 φ) R) (snd∗ 𝓤 (fact 𝓤 ψ) (fact 𝓤 χ))) (λ z.
-      fact_i 𝓤 (φ × (ψ × χ)) (sep 𝓤 (fact 𝓤 φ) R) (x, (y, z)))))
-
 pub says_two : {M : Type 1} {𝓤 : Ura M} {𝓛 : Logic 𝓤} {K : Type 0} {Γ : List (Item 𝓤)} → K → {φ ψ : Type 0} {P : SProp 𝓤} → φ × ψ → Step K 𝓛 Γ (prop P) Γ (prop (sep 𝓤 P (sep 𝓤 (fact 𝓤 φ) (fact 𝓤 ψ))))
 says_two {𝓤 = 𝓤} t {φ} {ψ} {P} x = step (λ s. record { prf = via 𝓤 P s.prf (added 𝓤 P (sep 𝓤 (fact 𝓤 φ) (fact 𝓤 ψ)) (beside 𝓤 φ (fact 𝓤 ψ) x.0 (fact_i 𝓤 ψ (emp 𝓤) x.1))) })
-
-pub says_three : {M : Type 1} {𝓤 : Ura M} {𝓛 : Logic 𝓤} {K : Type 0} {Γ : List (Item 𝓤)} → K → {φ ψ χ : Type 0} {P : SProp 𝓤} → φ × ψ × χ → Step K 𝓛 Γ (prop P) Γ (prop (sep 𝓤 P (sep 𝓤 (fact 𝓤 φ) (sep 𝓤 (fact 𝓤 ψ) (fact 𝓤 χ)))))
-says_three {𝓤 = 𝓤} t {φ} {ψ} {χ} {P} x = step (λ s. record { prf = via 𝓤 P s.prf (added 𝓤 P (sep 𝓤 (fact 𝓤 φ) (sep 𝓤 (fact 𝓤 ψ) (fact 𝓤 χ))) (beside 𝓤 φ (sep 𝓤 (fact 𝓤 ψ) (fact 𝓤 χ)) x.0 (beside 𝓤 ψ (fact 𝓤 χ) x.1 (fact_i 𝓤 χ (emp 𝓤) x.2)))) })

@@ -1,10 +1,9 @@
 -- What `owned` has of one block, and of the others: the one is taken out, and another is put in its place. Assumes `Logic`.
-use Rattle.std.proofs.Common.{◌≡◌, ℕ, zero, suc, ◌<◌, List, [], ◌∷◌, length, get_or, set, refl, ap, le_of_suc-le-suc, not-suc-le-zero}
+use Rattle.std.proofs.Common.{ℕ, zero, suc, ◌<◌, List, [], ◌∷◌, length, get_or, set, le_of_suc-le-suc, not-suc-le-zero}
 use seplogic.Ra.Ura.{Ura}
 use base.Logic.{SProp, ent, sep, id⊢, via, snd∗, never_e}
 use base.Fml.{Fml, ftrue, ffalse, fsep}
 use types.Logic.{Logic, sem}
-use contract.Monad.{fact, fact_i, fact_mono}
 use types.Kit.{‵, ◌⊛◌, ◌$◌, ◌∵◌, !, qed, move, use1, use2, split, fsplit, frame, done}
 use denote.RawPtr.{Ptr, null_ptr}
 use Rattle.heap.specs.Owned.{one, owned}
@@ -46,11 +45,3 @@ module _ {M : Type 1} {𝓤 : Ura M} (𝓛 : Logic 𝓤) where
   unfocus (r ∷ ps) (vs ∷ wss) (suc b) p ws l =
       qed 𝓛 (‵ (one p ws) ∷ ‵ (fsep (one r vs) (without ps wss b)) ∷ []) ∵ move ! (1 ∷ []) $ fsplit ! $ move ! (2 ∷ 1 ∷ []) $
       use2 𝓛 (‵ (owned (set ps b p) (set wss b ws))) (unfocus ps wss b p ws (le_of_suc-le-suc l)) $ move ! (1 ∷ 0 ∷ []) $ done !
-
-  -- there is a list of words for each pointer
-  pub as_many : (ps : List Ptr) (wss : List (List ℕ)) → ⟦ owned ps wss ⟧ ⊢ fact 𝓤 (length wss ≡ length ps)
-  unfolding owned
-  as_many [] [] = fact_i 𝓤 (0 ≡ 0) _ refl
-  as_many [] (ws ∷ wss) = never_e 𝓤 _
-  as_many (p ∷ ps) [] = never_e 𝓤 _
-  as_many (p ∷ ps) (ws ∷ wss) = via 𝓤 ⟦ owned ps wss ⟧ (snd∗ 𝓤 ⟦ one p ws ⟧ ⟦ owned ps wss ⟧) (via 𝓤 (fact 𝓤 (length wss ≡ length ps)) (as_many ps wss) (fact_mono 𝓤 (length wss ≡ length ps) (suc (length wss) ≡ suc (length ps)) (ap suc)))

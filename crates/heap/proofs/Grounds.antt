@@ -1,5 +1,5 @@
 -- The ground that a heap is, when the words of one block change. Assumes nothing.
-use Rattle.std.proofs.Common.{◌≡◌, ℕ, zero, suc, ◌-◌, ◌<◌, Bool, true, false, cond, not, T, eqb, ◌≢◌, List, [], ◌∷◌, length, get_or, set, sym, refl, ap, ◌∙◌, subst, eqb→eq, T_not, get_or-set_other, get_or-set_same}
+use Rattle.std.proofs.Common.{◌≡◌, ℕ, zero, suc, ◌<◌, Bool, true, false, cond, not, T, eqb, ◌≢◌, List, [], ◌∷◌, length, get_or, set, sym, refl, ap, ◌∙◌, subst, eqb→eq, T_not, get_or-set_other, get_or-set_same}
 use lib.Dec.{eqb_refl}
 use Rattle.things.specs.Ground.{Ground}
 

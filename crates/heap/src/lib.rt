@@ -1,31 +1,20 @@
 // A heap of 1,024 blocks of 64 words: memory of C's allocator, asked for block by block and owned by one value.
 #![tactic(auto)]
+
 ghost use Rattle.std.specs.Prelude.{◌≡◌, ℕ, ◌+◌, ◌<◌, List, slice_index};
 ghost use Rattle.things.specs.Ground.{AtStart};
-ghost use Rattle.heap.specs.Owned.{owned, held, ground_of};
+ghost use Rattle.heap.specs.Owned.{held, ground_of};
 ghost use Rattle.heap.specs.Sizes.{block_count};
 ghost use Rattle.heap.specs.FreeList.{Valid, Unheld, Distinct};
 
-use std::marker::Model;
-use std::rt::Memory;
+mod cells;
+
+use cells::{BLOCKS, Cells, WORDS};
+use std::alloc::Global;
 use things::{Blocks, Bounds};
 
-// The sizes. specs/Sizes.antt has the same for the proofs, and the field `at` below spells 64 and 1,024 out.
-// The words of a block.
-const WORDS: usize = 64;
-
-// The bytes of a word, which is aligned to as many.
-const WORD_BYTES: usize = 8;
-
-// The bytes of a block.
-const BYTES: usize = WORDS * WORD_BYTES;
-
-// How many blocks there are.
-const BLOCKS: usize = 1024;
-
 pub struct Heap {
-    // where block b lies, if b is held; else anything
-    at: [*mut [u64; 64]; 1024],
+    cells: Cells,
     left: u64,
     top: u64,
     failed: bool,
@@ -33,22 +22,15 @@ pub struct Heap {
     free: [u32; BLOCKS],
     spare: usize,
     // the right to call the allocator
-    memory: Memory,
-    // what is in each block, and nothing for one that is not held
-    ghost words: { List (List ℕ) },
-    ghost counts: { held words + spare ≡ block_count },
+    alloc: Global,
+    ghost counts: { held cells.words + spare ≡ block_count },
     ghost valid: { Valid free spare },
-    ghost unheld: { Unheld free spare words },
+    ghost unheld: { Unheld free spare cells.words },
     ghost distinct: { Distinct free spare },
 }
 
-impl Model for Heap {
-    ghost also_owns = { λ h. owned h.at h.words };
-}
-
-// Each body is proved by hand, statement by statement: docs/PROOFS-BY-HAND.md. Keep them small.
 impl Blocks for Heap {
-    ghost as_ground = { λ h. ground_of h.words h.left h.top h.failed };
+    ghost as_ground = { λ h. ground_of h.cells.words h.left h.top h.failed };
 
     // Refuses when all blocks are held, and when the allocator does.
     fn obtain(&mut self) -> Option<u32> {
@@ -57,29 +39,24 @@ impl Blocks for Heap {
             self.failed = true;
             return None;
         }
-        let got = unsafe { libc::heap::rattle_alloc(self.memory, BYTES, WORD_BYTES) };
-        if got.ok {
-            let p = got.p as *mut [u64; WORDS];
-            unsafe {
-                *p = [0; WORDS];
+        match Box::new(self.alloc, [0; WORDS]) {
+            Ok(block) => {
+                let k = self.spare - 1;
+                let b = self.free[k];
+                self.spare = k;
+                self.cells.put_in(b, block);
+                Some(b)
             }
-            let k = self.spare - 1;
-            let b = self.free[k];
-            self.spare = k;
-            self.at[b as usize] = p;
-            Some(b)
-        } else {
-            self.failed = true;
-            None
+            Err(_) => {
+                self.failed = true;
+                None
+            }
         }
     }
 
     fn release(&mut self, b: u32) {
         self.left -= 1;
-        let p = self.at[b as usize];
-        unsafe {
-            libc::heap::rattle_dealloc(self.memory, p as *mut u8);
-        }
+        drop(self.cells.take_out(self.alloc, b));
         let k = self.spare;
         self.free[k] = b;
         self.spare = k + 1;
@@ -87,16 +64,12 @@ impl Blocks for Heap {
 
     fn get(&mut self, b: u32, i: u32) -> u64 {
         self.left -= 1;
-        let p = self.at[b as usize];
-        unsafe { (*p)[i as usize] }
+        self.cells.read(b, i)
     }
 
     fn put(&mut self, b: u32, i: u32, x: u64) {
         self.left -= 1;
-        let p = self.at[b as usize];
-        unsafe {
-            (*p)[i as usize] = x;
-        }
+        self.cells.write(b, i, x);
     }
 }
 
@@ -130,18 +103,18 @@ fn all_free() -> [u32; BLOCKS]
 
 impl Heap {
     // A heap that holds nothing.
-    pub fn new(memory: Memory) -> Heap
-        ensures { AtStart (ground_of result.words result.left result.top result.failed) }
+    pub fn new(alloc: Global) -> Heap
+        ensures { AtStart (ground_of result.cells.words result.left result.top result.failed) }
     {
         let free = all_free();
         Heap {
-            at: [std::ptr::null_mut(); BLOCKS],
+            cells: Cells::new(),
             left: 0,
             top: 0,
             failed: false,
             free,
             spare: BLOCKS,
-            memory,
+            alloc,
         }
     }
 
@@ -150,30 +123,32 @@ impl Heap {
     // if `h.many() == 0` the heap may be dropped, and else only leaked.
     pub fn leak(self) {
         let Self {
-            at: _,
+            cells,
             left: _,
             top: _,
             failed: _,
             free: _,
             spare: _,
-            memory: _,
+            alloc: _,
         } = self;
+        cells.leak();
     }
 }
 
 // A heap may be dropped only when it holds nothing, so no block is lost by mistake.
 impl Drop for Heap {
     fn drop(self)
-        requires { held self.words ≡ 0 }
+        requires { held self.cells.words ≡ 0 }
     {
         let Self {
-            at: _,
+            cells,
             left: _,
             top: _,
             failed: _,
             free: _,
             spare: _,
-            memory: _,
+            alloc: _,
         } = self;
+        cells.leak();
     }
 }

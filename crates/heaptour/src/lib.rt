@@ -1,12 +1,13 @@
 // A word goes through a block of a heap: the block is got, written, read and given back, and the heap is let go.
 #![tactic(auto)]
+
 ghost use Rattle.std.specs.Prelude.{◌≡◌, ◌<◌, true, false, Some, None};
 ghost use Rattle.things.specs.Ground.{AtStart};
 ghost use Rattle.heap.specs.Owned.{held};
 ghost use Rattle.heaptour.specs.OneBlock.{Holds, Took, Wrote, Read};
 
 use heap::Heap;
-use std::rt::Memory;
+use std::alloc::Global;
 use things::{Blocks, Bounds};
 
 // How often the heap is asked: for the block, to write, to read, and to give the block back.
@@ -15,10 +16,10 @@ const ASKS: u64 = 4;
 const PLACE: u32 = 3;
 
 // What goes in comes out; or nothing, where the heap had no block: an allocator may refuse at any time.
-pub fn carry(memory: Memory, x: u64) -> Option<u64>
+pub fn carry(alloc: Global, x: u64) -> Option<u64>
     ensures { elim result [ Some y ↦ y ≡ x | None ↦ Unit {0} ] }
 {
-    let mut h = Heap::new(memory);
+    let mut h = Heap::new(alloc);
     match take(&mut h) {
         Some(b) => {
             write(&mut h, b, PLACE, x);
@@ -32,7 +33,8 @@ pub fn carry(memory: Memory, x: u64) -> Option<u64>
 
 // Lets a heap go of which it isn't known whether it holds anything, and says whether nothing is lost.
 pub fn let_go(mut h: Heap) -> bool
-    ensures { ((result ≡ true → held h.words ≡ 0)) × ((result ≡ false → 0 < held h.words)) }
+    ensures dropped { result ≡ true → held h.cells.words ≡ 0 }
+    ensures leaked { result ≡ false → 0 < held h.cells.words }
 {
     if h.many() == 0 {
         h.drop();
@@ -44,30 +46,35 @@ pub fn let_go(mut h: Heap) -> bool
 }
 
 fn take<B: Blocks + Bounds>(h: &mut B) -> Option<u32>
-    requires { AtStart (as_ground h.old) }
-    ensures { Took result 3 (as_ground h.new) }
+    requires { AtStart (B.as_ground h.old) }
+    ensures { Took result 3 (B.as_ground h.new) }
 {
     h.allow(ASKS, 1);
     h.obtain()
 }
 
 fn write<B: Blocks>(h: &mut B, b: u32, i: u32, x: u64)
-    requires { (Holds b (as_ground h.old)) × ((0 < (as_ground h.old).left) × (i < 64)) }
-    ensures { Wrote b i x (as_ground h.old) (as_ground h.new) }
+    requires held { Holds b (B.as_ground h.old) }
+    requires asks { 0 < (B.as_ground h.old).left }
+    requires inside { i < 64 }
+    ensures { Wrote b i x (B.as_ground h.old) (B.as_ground h.new) }
 {
     h.put(b, i, x);
 }
 
 fn read<B: Blocks>(h: &mut B, b: u32, i: u32) -> u64
-    requires { (Holds b (as_ground h.old)) × ((0 < (as_ground h.old).left) × (i < 64)) }
-    ensures { Read b i result (as_ground h.old) (as_ground h.new) }
+    requires held { Holds b (B.as_ground h.old) }
+    requires asks { 0 < (B.as_ground h.old).left }
+    requires inside { i < 64 }
+    ensures { Read b i result (B.as_ground h.old) (B.as_ground h.new) }
 {
     h.get(b, i)
 }
 
 fn give_back<B: Blocks>(h: &mut B, b: u32)
-    requires { (Holds b (as_ground h.old)) × (0 < (as_ground h.old).left) }
-    ensures { (as_ground h.new).many ≡ 0 }
+    requires held { Holds b (B.as_ground h.old) }
+    requires asks { 0 < (B.as_ground h.old).left }
+    ensures { (B.as_ground h.new).many ≡ 0 }
 {
     h.release(b);
 }

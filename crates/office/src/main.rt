@@ -1,5 +1,6 @@
 // The office: a script on standard input, over 1,024 blocks in memory that it lends.
 #![tactic(auto)]
+
 ghost use Rattle.things.specs.Ground.{AtStart};
 
 use console::play;

@@ -1,3 +1,1 @@
-mod Shapes
-mod OpenWord
 mod Facts

@@ -1,6 +1,7 @@
 // The smallest value that owns memory: one word behind a raw pointer, written and read.
 // Its two proofs are the ones to read first: docs/PROOFS-BY-HAND.md.
 #![tactic(auto)]
+
 ghost use Rattle.std.specs.Prelude.{◌≡◌, ℕ};
 ghost use Rattle.std.specs.Borrow.{full_share, u64};
 ghost use Rattle.std.specs.Ptr.{lies_at};
@@ -26,8 +27,8 @@ impl OneWord {
     }
 
     pub fn get(&mut self) -> u64
-        ensures fact_1 { result ≡ self.old.word }
-        ensures fact_2 { self.new.word ≡ self.old.word }
+        ensures word { result ≡ self.old.word }
+        ensures unchanged { self.new.word ≡ self.old.word }
     {
         unsafe { *self.at }
     }

@@ -1,5 +1,5 @@
 -- The turns of giving back a tree, as the code has them.
-use Rattle.std.proofs.Common.{◌≡◌, ℕ, zero, suc, ◌+◌, ◌-◌, ◌*◌, ◌<◌, ◌≤◌, List, [], ◌∷◌, length, get_or, sym, ap, ◌∙◌, subst, add-one, arith}
+use Rattle.std.proofs.Common.{◌≡◌, ℕ, zero, suc, ◌+◌, ◌*◌, ◌<◌, ◌≤◌, List, [], ◌∷◌, length, get_or, sym, ap, ◌∙◌, subst, add-one, arith}
 use Rattle.page.specs.Layout.{Layout}
 use Rattle.store.specs.Memory.{Memory, Stored, asked, released}
 use Rattle.tree.specs.declared.top.Tree.{Tree}

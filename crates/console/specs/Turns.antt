@@ -1,13 +1,13 @@
 -- What a line of a script does, and what is replied.
 -- Assumes nothing.
-use Rattle.std.specs.Prelude.{◌≡◌, ℕ, ◌≤◌, List, Some, None, Option}
+use Rattle.std.specs.Prelude.{◌≡◌, ℕ, ◌≤◌, Some, None, Option}
 use Rattle.things.specs.declared.Op.{Op}
 use Rattle.things.specs.declared.Answer.{Answer}
 use Rattle.things.specs.declared.state.Things.{Things}
-use Rattle.things.specs.Ground.{Ground, looked}
+use Rattle.things.specs.Ground.{Ground}
 use Rattle.things.specs.Things.{Right, after, may_hold}
 use Rattle.things.specs.Promise.{can}
-use Rattle.things.specs.State.{Sound, Served, shelf_of}
+use Rattle.things.specs.State.{Sound, shelf_of}
 use Rattle.script.specs.declared.line.Line.{Line}
 use Rattle.script.specs.declared.line.Line.TheVariants as line
 use Rattle.script.specs.declared.reply.Reply.{Reply}

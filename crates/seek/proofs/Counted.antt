@@ -1,8 +1,8 @@
 -- The counts of a node's children, read one after the other.
-use Rattle.std.proofs.Common.{◌≡◌, ℕ, ◌+◌, ◌<◌, ◌≤◌, List, length, get_or, take, sym, ap, ◌∙◌, arith}
+use Rattle.std.proofs.Common.{◌≡◌, ℕ, ◌+◌, ◌<◌, ◌≤◌, List, length, get_or, take, ap, ◌∙◌, arith}
 use Rattle.std.proofs.lemmas.List.{get_or_default}
 use Rattle.page.specs.declared.child.Child.{Child}
-use Rattle.page.specs.Layout.{Layout, counts}
+use Rattle.page.specs.Layout.{counts}
 use Rattle.page.proofs.Counts.{counts_more, counts_upto}
 use Rattle.store.specs.Memory.{Memory, Stored, asked}
 use Rattle.store.specs.Steps.{Mem}

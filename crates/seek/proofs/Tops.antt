@@ -1,5 +1,5 @@
 -- The topmost page of a tree, by the tree's height.
-use Rattle.std.proofs.Common.{◌≡◌, ℕ, zero, suc, ◌+◌, ◌^◌, ◌<◌, ◌≤◌, length, refl, arith}
+use Rattle.std.proofs.Common.{◌≡◌, ℕ, zero, suc, ◌^◌, ◌<◌, ◌≤◌, length, refl, arith}
 use Rattle.page.specs.Layout.{Layout, counts}
 use Rattle.store.specs.Memory.{Stored}
 use Rattle.store.specs.Steps.{Mem, held}

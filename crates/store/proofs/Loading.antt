@@ -1,5 +1,5 @@
 -- The first words of a block, read and written one after the other.
-use Rattle.std.proofs.Common.{◌≡◌, ℕ, zero, suc, ◌+◌, ◌-◌, ◌<◌, ◌≤◌, ◌≢◌, List, [], ◌∷◌, ◌++◌, length, get_or, take, drop, set, replicate, sym, refl, ap, ◌∙◌, subst, add_comm, arith, length-set, get_or-set_other}
+use Rattle.std.proofs.Common.{◌≡◌, ℕ, zero, suc, ◌+◌, ◌<◌, ◌≤◌, ◌≢◌, List, [], ◌∷◌, ◌++◌, length, get_or, take, drop, set, replicate, sym, refl, ap, ◌∙◌, subst, add_comm, arith, length-set, get_or-set_other}
 use lib.ListN.{length-replicate}
 use Rattle.std.proofs.lemmas.List.{take_more, take_more_set, drop_more, set_at, append_assoc, length-take-le, length-append, length-drop, take_all, drop_all, append-nil}
 use Rattle.store.specs.Memory.{Memory, Stored, asked, wrote, written}

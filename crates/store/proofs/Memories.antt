@@ -1,5 +1,5 @@
 -- Memories that are the same, and askings one after the other.
-use Rattle.std.proofs.Common.{◌≡◌, ℕ, ◌+◌, ◌-◌, List, set, sym, refl, ap, ◌∙◌, subst, arith}
+use Rattle.std.proofs.Common.{◌≡◌, ℕ, ◌+◌, List, set, sym, refl, ap, ◌∙◌, subst, arith}
 use native.Mathlib.Decide.{ℕ_discrete}
 use Rattle.store.specs.Memory.{Memory, at, asked, wrote, written}
 use Rattle.store.specs.Steps.{Mem}

@@ -1,5 +1,5 @@
 -- Each asking as something that ran, and runs one after the other and beside what they leave alone.
-use Rattle.std.proofs.Common.{◌≡◌, ℕ, ◌+◌, ◌-◌, ◌<◌, ◌≤◌, List, [], ◌∷◌, length, sym, refl, ap, ◌∙◌, subst, arith}
+use Rattle.std.proofs.Common.{◌≡◌, ℕ, ◌+◌, ◌<◌, ◌≤◌, List, [], ◌∷◌, length, sym, refl, ap, ◌∙◌, subst, arith}
 use Rattle.store.specs.Memory.{Memory, Got, Stored, asked, wrote, released}
 use Rattle.store.specs.Steps.{Mem, Ran, held, hit, some}
 use Rattle.store.specs.Fresh.{Obtained, Returned}

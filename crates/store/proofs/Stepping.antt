@@ -1,9 +1,9 @@
 -- Steps one after the other, and beside what they leave alone.
-use Rattle.std.proofs.Common.{◌≡◌, ℕ, zero, suc, ◌+◌, ◌*◌, ◌<◌, ◌≤◌, Bool, true, false, cond, eqb, List, [], ◌∷◌, ◌++◌, length, sym, refl, ap, ◌∙◌, subst, ap₂, arith}
+use Rattle.std.proofs.Common.{◌≡◌, ℕ, ◌+◌, ◌*◌, ◌<◌, ◌≤◌, List, [], refl, ap, ◌∙◌, arith}
 use native.Mathlib.Decide.{ℕ_discrete}
 use Rattle.std.proofs.lemmas.Bool.{eq-eqb, ne_eqb}
-use Rattle.store.specs.Memory.{Memory, at}
-use Rattle.store.specs.Steps.{Mem, Same, Step, Ran, held, held_in, hit, some, sum_to}
+use Rattle.store.specs.Memory.{at}
+use Rattle.store.specs.Steps.{Mem, Same, Step, held, hit, some, sum_to}
 use Rattle.store.proofs.Sums.{hit_same, hit_other, sum_to_one}
 
 module _ (u v w : ℕ → ℕ) (f g h : Mem) where

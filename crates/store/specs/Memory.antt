@@ -1,6 +1,6 @@
 -- Blocks of 64 words, as the trees see them.
 -- Assumes nothing.
-use Rattle.std.specs.Prelude.{◌≡◌, ℕ, ◌+◌, ◌-◌, ◌<◌, ◌≤◌, Bool, true, false, cond, List, [], ◌∷◌, length, ◌==◌, slice_set}
+use Rattle.std.specs.Prelude.{◌≡◌, ℕ, ◌+◌, ◌-◌, ◌<◌, Bool, true, cond, List, [], length, ◌==◌, slice_set}
 
 -- block b: none, or its 64 words. many: how many are held; left: how often the memory may still be asked; top: so many may be held; failed: a block was refused.
 pub record Memory : Type 0 where

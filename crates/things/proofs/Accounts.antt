@@ -8,7 +8,6 @@ use Rattle.store.specs.Steps.{Step, held_in, sum_to}
 use Rattle.store.proofs.Sums.{sum_to_one, sum_to_two, at_sum_to}
 use Rattle.store.proofs.Stepping.{step_same}
 use Rattle.things.specs.declared.state.Slot.{Slot}
-use Rattle.things.specs.declared.state.Slot.TheVariants as slot
 use Rattle.things.specs.declared.state.Things.{Things}
 use Rattle.things.specs.Things.{Thing, Shelf, put}
 use Rattle.things.specs.State.{Words, Whole, Parts, Sound, thing, shelf_of, slot_of, slot_uses, SlotStands}

@@ -1,5 +1,5 @@
 -- What is under a name is given back, and so one name after the other, until nothing is held.
-use Rattle.std.proofs.Common.{◌≡◌, ℕ, ◌+◌, ◌*◌, ◌<◌, ◌≤◌, T, set, Ok, sym, refl, ap, ◌∙◌, subst, mul-le-mul_left, arith}
+use Rattle.std.proofs.Common.{◌≡◌, ℕ, ◌+◌, ◌*◌, ◌<◌, ◌≤◌, T, set, Ok, sym, refl, ◌∙◌, subst, mul-le-mul_left, arith}
 use native.Mathlib.Decide.{ℕ_discrete}
 use Rattle.store.specs.Memory.{Memory}
 use Rattle.store.specs.Steps.{Ran, held, held_in, sum_to}

@@ -1,5 +1,5 @@
 -- After the length of a row was looked up, which only reads the ground.
-use Rattle.std.proofs.Common.{◌≡◌, ℕ, ◌+◌, ◌<◌, ◌≤◌, length, sym, refl, ap, ◌∙◌, subst, arith}
+use Rattle.std.proofs.Common.{◌≡◌, ℕ, ◌<◌, ◌≤◌, length, ap, arith}
 use Rattle.page.specs.Layout.{Layout}
 use Rattle.store.specs.Memory.{Memory}
 use Rattle.tree.specs.declared.top.Tree.{Tree}

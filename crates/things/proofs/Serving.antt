@@ -20,7 +20,7 @@ use Rattle.things.specs.Ground.{Ground}
 use Rattle.things.specs.Bridge.{memory_of}
 use Rattle.things.specs.Names.{found, row_at, table_at, vacant}
 use Rattle.things.specs.Reasons.{refusal}
-use Rattle.things.specs.Things.{Nothing, ARow, Out, out, put, refuses, may_fill}
+use Rattle.things.specs.Things.{ARow, Out, out, put, refuses, may_fill}
 use Rattle.things.specs.Promise.{can}
 use Rattle.things.specs.State.{Sound, Ready, Served, two, thing, words_in, pairs_in, shelf_of, slot_of, slot_uses, SlotStands}
 use Rattle.things.proofs.Grounds.{Untouched, read_untouched}

@@ -5,17 +5,16 @@ use Rattle.page.specs.Layout.{Layout}
 use Rattle.page.specs.Kinds.{row_layout, table_layout}
 use Rattle.store.specs.Steps.{Mem, Same, sum_to}
 use Rattle.store.proofs.Sums.{sum_to_none}
-use Rattle.tree.specs.declared.top.Tree.{Tree}
 use Rattle.tree.specs.Tree.{Root, contents, blocks}
 use Rattle.tree.specs.Tall.{tall_contents, tall_uses, Tall}
-use Rattle.tree.specs.Trees.{holds, Stands}
+use Rattle.tree.specs.Trees.{holds}
 use Rattle.tree.proofs.Tall.{tall_frame}
 use Rattle.tree.proofs.Counting.{blocks_used}
 use Rattle.tree.proofs.Bounds.{bound_62_31, bound_31_20}
 use Rattle.things.specs.declared.state.Slot.{Slot}
 use Rattle.things.specs.declared.state.Slot.TheVariants as slot
 use Rattle.things.specs.declared.state.Things.{Things}
-use Rattle.things.specs.Things.{Nothing, ARow, ATable, weight}
+use Rattle.things.specs.Things.{ARow, ATable, weight}
 use Rattle.things.specs.State.{Words, words_in, pairs_in, two, thing, slot_of, slot_uses, slot_blocks, SlotStands}
 
 pub record SlotKept (f f' : Words) (x : Slot) : Type 0 where

@@ -1,13 +1,12 @@
 -- A page is read from the words of a block that it uses, and written to them.
-use Rattle.std.proofs.Common.{◌≡◌, ℕ, ◌+◌, ◌-◌, ◌*◌, ◌<◌, ◌≤◌, List, [], ◌∷◌, ◌++◌, length, get_or, take, drop, sym, refl, ap, ◌∙◌, subst, mul-le-mul_left, mul-one, arith, length-append, length-drop, length-take, length-take-le, get_or-take}
+use Rattle.std.proofs.Common.{◌≡◌, ℕ, ◌+◌, ◌*◌, ◌<◌, ◌≤◌, List, ◌++◌, length, get_or, take, drop, sym, ap, ◌∙◌, subst, mul-le-mul_left, mul-one, arith, length-append, length-drop, length-take-le, get_or-take}
 use Rattle.std.proofs.lemmas.List.{drop-take, take-take, take-append-le}
-use Rattle.page.specs.Layout.{imaged, rows}
+use Rattle.page.specs.Layout.{imaged}
 use Rattle.page.proofs.Images.{imaged_part}
 use Rattle.store.specs.Memory.{Memory, Stored, asked, wrote}
 use Rattle.store.specs.Steps.{Ran, hit}
 use Rattle.store.proofs.Memories.{asked_then}
 use Rattle.store.proofs.Running.{ran_wrote, ran_more}
-use Rattle.tree.specs.Writing.{Wrote}
 use Rattle.tree.specs.Pages.{page_asks, Reading, Writing}
 
 -- entries have a word at least, so there are no more of them than words

@@ -1,5 +1,5 @@
 -- How high a tree can be, and how many items it can have.
-use Rattle.std.proofs.Common.{◌≡◌, ℕ, zero, suc, ◌+◌, ◌*◌, ◌^◌, ◌<◌, ◌≤◌, length, sym, subst, mul-le-mul, lt_of_not-le, arith, lit<}
+use Rattle.std.proofs.Common.{ℕ, zero, suc, ◌^◌, ◌<◌, ◌≤◌, length, mul-le-mul, lt_of_not-le, arith, lit<}
 use native.Mathlib.Nat.{pow-le-pow_right}
 use Rattle.page.specs.Layout.{Layout}
 use Rattle.store.specs.Steps.{Mem, held, held_in, sum_to}

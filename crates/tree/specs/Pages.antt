@@ -1,6 +1,6 @@
 -- What is read of the memory, and what is written to it, page by page.
 -- Assumes nothing.
-use Rattle.std.specs.Prelude.{◌≡◌, ℕ, ◌+◌, ◌*◌, ◌≤◌, List, length}
+use Rattle.std.specs.Prelude.{◌≡◌, ℕ, ◌≤◌, List}
 use Rattle.store.specs.Memory.{Memory, asked}
 use Rattle.store.specs.Steps.{Ran, hit}
 use Rattle.tree.specs.Writing.{Wrote}

@@ -1,6 +1,6 @@
 -- Trees as the code has them, and what may be taken for granted of one in memory.
 -- Assumes nothing.
-use Rattle.std.specs.Prelude.{◌≡◌, ℕ, ◌+◌, ◌≤◌, List}
+use Rattle.std.specs.Prelude.{◌≡◌, ℕ, ◌≤◌, List}
 use Rattle.page.specs.Layout.{Layout}
 use Rattle.store.specs.Memory.{Memory}
 use Rattle.store.specs.Steps.{Mem, held, held_in}

@@ -1,4 +1,3 @@
-use Rattle.std.proofs.Common.{rules}
 use Rattle.tree.proofs.laws.Goals as goal
 use Rattle.tree.proofs.Frames.{frame}
 use Rattle.tree.proofs.Bounds.{bound_62_31, bound_31_20}

@@ -1,6 +1,5 @@
-use Rattle.std.proofs.Common.{take, arith}
+use Rattle.std.proofs.Common.{arith}
 use Rattle.std.proofs.lemmas.List.{take_all}
-use Rattle.page.specs.Layout.{counts}
 use Rattle.page.specs.View.{entries}
 use Rattle.page.proofs.Counts.{counts_none, counts_more}
 use Rattle.page.proofs.Pages.{length_entries}

@@ -1,4 +1,4 @@
-use Rattle.std.proofs.Common.{◌≡◌, ℕ, ◌+◌, ◌<◌, ◌≤◌, List, length, get_or, take, sym, ap, ◌∙◌, arith, rules}
+use Rattle.std.proofs.Common.{ℕ, ◌+◌, ◌<◌, ◌≤◌, List, get_or, take, ap, ◌∙◌, arith, rules}
 use Rattle.std.proofs.lemmas.List.{take_all}
 use Rattle.page.specs.Layout.{counts}
 use Rattle.page.proofs.Counts.{counts_none}
@@ -6,7 +6,6 @@ use Rattle.store.proofs.Memories.{asked_none}
 use Rattle.tree.specs.Paths.{none}
 use Rattle.seek.specs.Descent.{more}
 use Rattle.seek.proofs.Counted.{one_more, asked_so_far, asked_page, asked_more}
-use Rattle.seek.proofs.Readings.{reading_asked, reading_then}
 use Rattle.seek.proofs.choose.choose_child.Goals as goal
 
 pub loop-child-init : goal.loop-child-init

@@ -1,7 +1,6 @@
-use Rattle.std.proofs.Common.{◌≡◌, ℕ, ◌*◌, ◌≤◌, sym, refl, ap, ◌∙◌, subst, arith}
+use Rattle.std.proofs.Common.{◌*◌, ◌≤◌, sym, subst}
 use Rattle.page.specs.Kinds.{row_layout, table_layout}
 use Rattle.store.specs.Steps.{Ran}
-use Rattle.store.proofs.Running.{ran_none, ran_more}
 use Rattle.clear.specs.Given.{give_asks}
 use Rattle.things.specs.declared.state.Slot.{Slot}
 use Rattle.things.specs.Bridge.{memory_of}

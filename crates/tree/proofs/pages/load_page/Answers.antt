@@ -1,4 +1,4 @@
-use Rattle.std.proofs.Common.{◌≡◌, ◌+◌, ◌*◌, ◌<◌, ◌≤◌, get_or, take, sym, refl, ap, ◌∙◌, arith}
+use Rattle.std.proofs.Common.{◌≡◌, ◌+◌, ◌*◌, ◌≤◌, get_or, take, ap, ◌∙◌, arith}
 use Rattle.tree.proofs.Imaging.{few_entries, same_word, same_image, reading_two}
 use Rattle.tree.proofs.pages.load_page.Goals as goal
 

@@ -1,4 +1,4 @@
-use Rattle.std.proofs.Common.{◌≡◌, ℕ, ◌+◌, ◌*◌, ◌<◌, ◌≤◌, ◌++◌, take, drop, sym, refl, ap, ◌∙◌, subst, arith}
+use Rattle.std.proofs.Common.{◌≡◌, ℕ, ◌+◌, ◌*◌, ◌≤◌, ◌++◌, take, drop, sym, ◌∙◌, subst}
 use Rattle.store.specs.Memory.{wrote}
 use Rattle.tree.proofs.Imaging.{writing_image}
 use Rattle.tree.proofs.pages.store_page.Goals as goal

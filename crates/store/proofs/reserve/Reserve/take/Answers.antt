@@ -1,4 +1,4 @@
-use Rattle.std.proofs.Common.{◌≡◌, ℕ, ◌+◌, ◌-◌, sym, ◌∙◌, arith}
+use Rattle.std.proofs.Common.{◌≡◌, ℕ, ◌+◌, sym, ◌∙◌, arith}
 use Rattle.store.specs.Uses.{uses_in}
 use Rattle.store.specs.Steps.{hit}
 use Rattle.store.specs.Reserve.{uses}

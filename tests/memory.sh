@@ -2,9 +2,9 @@
 # office2 and C's allocator: what no contract can say, so it is run.
 #   1. under valgrind on the whole script: no error, no leak, as many frees as allocations;
 #   2. with little address space, so that C itself refuses: the office answers, and ends well.
-# Run from the repository's root after `rt check office2`.
+# Run from the repository's root after `rt run` in crates/office2, which leaves the program in its out folder.
 set -u
-office=target/bin/office2
+office=crates/office2/out/office2
 script=crates/office2/stdin
 log=$(mktemp)
 out=$(mktemp)

@@ -52,7 +52,7 @@ class Player:
 
 def main():
     p = argparse.ArgumentParser()
-    p.add_argument("--office", default="target/bin/office")
+    p.add_argument("--office", default="crates/office/out/office")
     p.add_argument("--calls", type=int, default=50000)
     p.add_argument("--seed", type=int, default=1)
     p.add_argument("--rounds", type=int, default=1)

@@ -11,6 +11,7 @@ mod cells;
 
 use cells::{BLOCKS, Cells, WORDS};
 use std::alloc::Global;
+use std::rt::Memory;
 use things::{Blocks, Bounds};
 
 pub struct Heap {
@@ -21,7 +22,7 @@ pub struct Heap {
     // the free list, a stack: its first `spare` numbers are those of the blocks that are not held
     free: [u32; BLOCKS],
     spare: usize,
-    // the right to call the allocator
+    // the handle to the allocator
     alloc: Global,
     ghost counts: { held cells.words + spare ≡ block_count },
     ghost valid: { Valid free spare },
@@ -103,7 +104,7 @@ fn all_free() -> [u32; BLOCKS]
 
 impl Heap {
     // A heap that holds nothing.
-    pub fn new(alloc: Global) -> Heap
+    pub fn new(memory: Memory) -> Heap
         ensures { AtStart (ground_of result.cells.words result.left result.top result.failed) }
     {
         let free = all_free();
@@ -114,7 +115,7 @@ impl Heap {
             failed: false,
             free,
             spare: BLOCKS,
-            alloc,
+            alloc: Global::new(memory),
         }
     }
 

@@ -4,7 +4,7 @@
 use heaptour::carry;
 
 fn main(rt: HostRuntime) -> Result<(), std::io::Error> {
-    match carry(rt.alloc(), 77) {
+    match carry(rt.memory(), 77) {
         Some(x) => println!(rt; "{x} went through a block")?,
         None => println!(rt; "the heap had no block")?,
     }

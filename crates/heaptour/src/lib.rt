@@ -7,7 +7,7 @@ ghost use Rattle.heap.specs.Owned.{held};
 ghost use Rattle.heaptour.specs.OneBlock.{Holds, Took, Wrote, Read};
 
 use heap::Heap;
-use std::alloc::Global;
+use std::rt::Memory;
 use things::{Blocks, Bounds};
 
 // How often the heap is asked: for the block, to write, to read, and to give the block back.
@@ -16,10 +16,10 @@ const ASKS: u64 = 4;
 const PLACE: u32 = 3;
 
 // What goes in comes out; or nothing, where the heap had no block: an allocator may refuse at any time.
-pub fn carry(alloc: Global, x: u64) -> Option<u64>
+pub fn carry(memory: Memory, x: u64) -> Option<u64>
     ensures { elim result [ Some y ↦ y ≡ x | None ↦ Unit {0} ] }
 {
-    let mut h = Heap::new(alloc);
+    let mut h = Heap::new(memory);
     match take(&mut h) {
         Some(b) => {
             write(&mut h, b, PLACE, x);

@@ -5,7 +5,7 @@ use console::play;
 use heap::Heap;
 
 fn main(rt: HostRuntime) -> anyhow::Result<()> {
-    let (_empty, ran) = play(&rt, Heap::new(rt.alloc()));
+    let (_empty, ran) = play(&rt, Heap::new(rt.memory()));
     ran?;
     Ok(())
 }

@@ -37,7 +37,7 @@ pub struct Planned<'c, 'a, B> {
 
 impl<'c, 'a, B: Blocks> Planned<'c, 'a, B> {
     pub fn over(blocks: B, calls: &'c [Call], asks: &'a mut [u64]) -> Planned<'c, 'a, B>
-        ensures { AtStart (B.Blocks.ground blocks) → AtStart (ground_of B.Blocks.ground result.ration) }
+        ensures { AtStart (B.Blocks.as_ground blocks) → AtStart (ground_of B.Blocks.as_ground result.ration) }
     {
         Planned {
             ration: Ration::over(blocks),
@@ -77,7 +77,7 @@ impl<'c, 'a, B: Blocks + Bounds> Planned<'c, 'a, B> {
 }
 
 impl<'c, 'a, B: Blocks + Bounds> Blocks for Planned<'c, 'a, B> {
-    ghost ground = { λ p. ground_of B.Blocks.ground p.ration };
+    ghost as_ground = { λ p. ground_of B.Blocks.as_ground p.ration };
 
     fn obtain(&mut self) -> Option<u32> {
         self.ration.obtain()

@@ -28,7 +28,7 @@ pub fn play<B: Blocks + Bounds + Drop>(
     replies: &mut [Reply],
     asks: &mut [u64],
 ) -> Outcome
-    requires { AtStart (B.Blocks.ground blocks) }
+    requires { AtStart (B.Blocks.as_ground blocks) }
     ensures { (result.refused ≡ 0) × (Answered result.told calls.now replies.new) }
 {
     let mut ground = Planned::over(blocks, calls, asks);

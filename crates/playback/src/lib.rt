@@ -1,4 +1,6 @@
 // Scripts of calls from C or Rust, played on lent memory.
+#![tactic(auto)]
+
 ghost use Rattle.std.specs.Prelude.{◌≡◌};
 ghost use Rattle.playback.specs.Outcomes.{Ended, FirstUnknown};
 

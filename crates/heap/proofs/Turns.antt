@@ -43,8 +43,13 @@ module _ (wss : List (List ℕ)) (free : List ℕ) (n : ℕ) (kept : Kept wss fr
     more = filled wss b ws inside (unheld (n - 1) top) full
 
     pub obtained_keeps : Kept (set wss b ws) free (n - 1)
-    obtained_keeps = record { sized = length-set wss b ws ∙ sized; counts = let e = more in omega arith; valid = pop_valid free n pos valid;
-      unheld = pop_unheld free n pos wss ws distinct unheld; distinct = pop_distinct free n pos distinct }
+    obtained_keeps = record {
+      sized = length-set wss b ws ∙ sized;
+      counts = let e = more in omega arith;
+      valid = pop_valid free n pos valid;
+      unheld = pop_unheld free n pos wss ws distinct unheld;
+      distinct = pop_distinct free n pos distinct;
+    }
 
   module _ (b : ℕ) (full : length (get_or wss b []) ≡ block_words) where
     used : 0 < length (get_or wss b [])
@@ -65,14 +70,24 @@ module _ (wss : List (List ℕ)) (free : List ℕ) (n : ℕ) (kept : Kept wss fr
     pub released_keeps : length free ≡ block_count → Kept (set wss b []) (set free n b) (n + 1)
     released_keeps lf =
         let fit : n < length free = let r = released_room in omega arith in
-        record { sized = length-set wss b [] ∙ sized; counts = let e = fewer in omega arith; valid = push_valid free n b fit valid released_below;
-          unheld = push_unheld free n b fit wss unheld within; distinct = push_distinct free n b fit wss unheld used distinct }
+        record {
+          sized = length-set wss b [] ∙ sized;
+          counts = let e = fewer in omega arith;
+          valid = push_valid free n b fit valid released_below;
+          unheld = push_unheld free n b fit wss unheld within;
+          distinct = push_distinct free n b fit wss unheld used distinct;
+        }
 
   pub written_keeps : (b i x : ℕ) → Kept (set wss b (set (get_or wss b []) i x)) free n
   written_keeps b i x =
       let ws : List ℕ = set (get_or wss b []) i x in let same : length ws ≡ length (get_or wss b []) = length-set (get_or wss b []) i x in
-      record { sized = length-set wss b ws ∙ sized; counts = ap (λ (m : ℕ). m + n) (held_same wss b ws same) ∙ counts; valid = valid;
-        unheld = λ j l. lengths_same wss b ws same (get_or free j 0) ∙ unheld j l; distinct = distinct }
+      record {
+        sized = length-set wss b ws ∙ sized;
+        counts = ap (λ (m : ℕ). m + n) (held_same wss b ws same) ∙ counts;
+        valid = valid;
+        unheld = λ j l. lengths_same wss b ws same (get_or free j 0) ∙ unheld j l;
+        distinct = distinct;
+      }
 
 -- what the ground is then
 module _ (wss : List (List ℕ)) where

@@ -17,12 +17,6 @@ use things::{Blocks, Bounds};
 // The words of a block.
 const WORDS: usize = 64;
 
-// The bytes of a word, which is aligned to as many.
-const WORD_BYTES: usize = 8;
-
-// The bytes of a block.
-const BYTES: usize = WORDS * WORD_BYTES;
-
 // How many blocks there are.
 const BLOCKS: usize = 1024;
 

@@ -1,5 +1,5 @@
 -- `empty` makes a heap that holds nothing. Assumes `Logic`.
-use Rattle.std.proofs.Common.{◌≡◌, ℕ, ◌<◌, List, [], ◌∷◌, ◌++◌, get_or, refl, lit<, w32}
+use Rattle.std.proofs.Common.{ℕ, List, [], ◌∷◌, ◌++◌, refl, lit<, w32}
 use Rattle.std.proofs.raw_atomic.Walks.{proved_at}
 use base.Logic.{id⊢}
 use base.Fml.{ftrue}
@@ -27,7 +27,6 @@ use denote.Triple.Walked.{Stays, walk_of, says, stay_dropped, ends_at}
 use Rattle.std.proofs.alloc.Calls.{Goes-blank, handle_tells}
 use Rattle.std.specs.contracts.alloc.Global as heap
 use Rattle.heap.specs.Sizes.{block_count}
-use Rattle.heap.specs.declared.Heap.TheInside.{Inside}
 use Rattle.heap.specs.declared.Heap.TheView.{view}
 use Rattle.heap.specs.contracts.Heap as T
 use Rattle.heap.specs.contracts.Heap.TheInside as I

@@ -1,5 +1,5 @@
 -- `hold` keeps a block's pointer, under the number on top of the free list. Assumes `Logic`.
-use Rattle.std.proofs.Common.{◌≡◌, ℕ, ◌+◌, ◌-◌, sym, subst, ◌*◌, ◌^◌, ◌<◌, List, [], ◌∷◌, ◌++◌, length, get_or, set, refl, ap, ◌∙◌, length-set, arith, w32}
+use Rattle.std.proofs.Common.{◌≡◌, ℕ, ◌+◌, ◌-◌, sym, subst, ◌*◌, ◌^◌, ◌<◌, List, [], ◌∷◌, ◌++◌, length, get_or, set, refl, ap, ◌∙◌, arith, w32}
 use Rattle.std.proofs.raw_atomic.Walks.{proved_at}
 use base.Fraction.{full_share}
 use base.Fml.{ftrue, fat, flft}
@@ -13,7 +13,7 @@ use contract.BorrowLft.{◌⊑◌, ⊑_static}
 use contract.Monad.{fact, fact_i}
 use contract.Running.{tables}
 use lib.Seq.{set-get_or}
-use types.Kit.{‵, raw, ◌⊛◌, given, prop, some, later, ◌$◌, ◌∵◌, !, qed, move, keep, drop, use0, use1, use2, rewrite, learn, split, join, regoal, fsplit, fsplit3, fjoin, feq_i, feq_l, pick, await, suffices, frame, group, done}
+use types.Kit.{‵, raw, ◌⊛◌, given, prop, some, later, ◌$◌, ◌∵◌, !, qed, move, keep, drop, use0, use1, use2, rewrite, learn, split, join, regoal, fsplit, fsplit3, fjoin, feq_l, pick, await, suffices, frame, group, done}
 use types.Run.{enter, of_opd, lit, un, bin, addr, load, look, store, stop, fld, assigns, no_more, and_then, returns}
 use types.Tokens.{lft_new}
 use types.ByLocal.{alloc_all, pass_all, free_all, look_at, get, through, sets, lands_as}

@@ -1,5 +1,5 @@
 -- `let_go` gives a block away, and puts its number on the free list. Assumes `Logic`.
-use Rattle.std.proofs.Common.{◌≡◌, ℕ, ◌+◌, ◌*◌, ◌^◌, ◌<◌, List, [], ◌∷◌, ◌++◌, length, get_or, set, T, sym, subst, refl, ap, ◌∙◌, length-set, arith, w32}
+use Rattle.std.proofs.Common.{◌≡◌, ℕ, ◌+◌, ◌*◌, ◌^◌, ◌<◌, List, [], ◌∷◌, ◌++◌, length, get_or, set, T, sym, subst, refl, ap, arith, w32}
 use Rattle.std.proofs.raw_atomic.Walks.{proved_at}
 use base.Fraction.{full_share}
 use base.Fml.{ftrue, fat, flft}

@@ -24,7 +24,6 @@ use denote.Steps.{nothing, heard, owned as owns_it}
 use denote.Triple.Walked.{Stays, walk_of, stay_dropped, Goes-dropped, stay_ref, Goes-ref, ends_at}
 use Rattle.heap.specs.Sizes.{block_words, block_count}
 use Rattle.heap.specs.State.{State}
-use Rattle.heap.specs.declared.Heap.TheInside.{Inside}
 use Rattle.heap.specs.declared.Heap.TheView.{view}
 use Rattle.heap.specs.contracts.Heap.{the_row as R}
 use Rattle.heap.specs.contracts.Heap.read as f

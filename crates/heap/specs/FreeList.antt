@@ -1,8 +1,7 @@
 -- The free list, a stack: the first n of xs are the numbers of the blocks that are not held.
 -- Assumes nothing.
-use Rattle.std.specs.Prelude.{◌≡◌, ℕ, ◌+◌, ◌<◌, List, [], length, slice_index, slice_index_or}
+use Rattle.std.specs.Prelude.{◌≡◌, ℕ, ◌<◌, List, [], length, slice_index, slice_index_or}
 use Rattle.heap.specs.Sizes.{block_count}
-use Rattle.heap.specs.Owned.{held}
 
 -- each is the number of a block
 abbrev pub Valid : List ℕ → ℕ → Type 0
@@ -15,11 +14,3 @@ Unheld xs n wss = (j : ℕ) → j < n → length (slice_index_or wss (slice_inde
 -- no number stands there twice
 abbrev pub Distinct : List ℕ → ℕ → Type 0
 Distinct xs n = (j k : ℕ) → ((j < k) × (k < n) × (slice_index xs j ≡ slice_index xs k)) → ⊥
-
--- what is true of every heap's blocks and free list
-pub record Kept (wss : List (List ℕ)) (xs : List ℕ) (n : ℕ) : Type 0 where
-  pub sized : length wss ≡ block_count
-  pub counts : held wss + n ≡ block_count
-  pub valid : Valid xs n
-  pub unheld : Unheld xs n wss
-  pub distinct : Distinct xs n

@@ -90,16 +90,16 @@ module _ {M : Type 1} {𝓤 : Ura M} (𝓛 : Logic 𝓤) where
 
 module _ {M : Type 1} {𝓤 : Ura M} {𝓛 : Logic 𝓤} {K : Type 0} {Γ : List (Item 𝓤)} {G : Goal 𝓤 𝓛.H} where
   -- [0 the pointers; 1 what is owned; 2 the free list; 3 spare; 4 the rest; 5 the open borrow; 6 obs; 7 auth]
-  pub heap_opens : K → Soaks G → {κ : Lft} {q : Share} {γ : GName} (d : State) (rb ro : ℕ)
-      → ((h : Inside) → view h ≡ d → length h.at ≡ block_count → length h.free ≡ block_count → h.spare < 2 ^ 64
+  pub heap_opens : K → Soaks G → {κ : Lft} {q : Share} {γ : GName} (s : State) (rb ro : ℕ)
+      → ((h : Inside) → view h ≡ s → length h.at ≡ block_count → length h.free ≡ block_count → h.spare < 2 ^ 64
       → Seq K 𝓛 (‵ (part_at (Array RawPtr block_count) full_share h.at rb (ro + 0)) ∷ ‵ (owned h.at h.words)
       ∷ ‵ (part_at (Array u32 block_count) full_share h.free rb (ro + free_at)) ∷ ‵ (fat full_share (ty_int w64) rb (ro + spare_at) (vint w64 h.spare)) ∷ ‵ (Rest h rb ro)
-      ∷ ‵ (fobor κ q (Body (mem T.the_row) rb ro γ)) ∷ ‵ (fobs γ ((T.the_row).coded.code d)) ∷ ‵ (fauth γ ((T.the_row).coded.code d)) ∷ Γ) G)
-      → Seq K 𝓛 (‵ (fobs γ ((T.the_row).coded.code d)) ∷ ‵ (fbor κ (Body (mem T.the_row) rb ro γ)) ∷ ‵ (flft κ q) ∷ Γ) G
+      ∷ ‵ (fobor κ q (Body (mem T.the_row) rb ro γ)) ∷ ‵ (fobs γ ((T.the_row).coded.code s)) ∷ ‵ (fauth γ ((T.the_row).coded.code s)) ∷ Γ) G)
+      → Seq K 𝓛 (‵ (fobs γ ((T.the_row).coded.code s)) ∷ ‵ (fbor κ (Body (mem T.the_row) rb ro γ)) ∷ ‵ (flft κ q) ∷ Γ) G
   unfolding part_of
-  heap_opens t z d rb ro k =
-      open_ref t z (mem T.the_row) {x = d} {b = rb} {o = ro} $
-      use1 𝓛 (some (λ (a : (a : Inside) × (T'.the_opens).Known d a). ‵ (part_at I.the_row full_share a.0 rb ro))) (plain_out T.the_row I.the_row T'.the_opens 𝓛 full_share d rb ro) $ pick t (λ a.
+  heap_opens t z s rb ro k =
+      open_ref t z (mem T.the_row) {x = s} {b = rb} {o = ro} $
+      use1 𝓛 (some (λ (a : (a : Inside) × (T'.the_opens).Known s a). ‵ (part_at I.the_row full_share a.0 rb ro))) (plain_out T.the_row I.the_row T'.the_opens 𝓛 full_share s rb ro) $ pick t (λ a.
       let h : Inside = a.0 in
       use1 𝓛 (‵ (part_at (Struct (shape I.the_type)) full_share (to I.the_type h) rb ro) ⊛ ‵ (owned h.at h.words)) (part_out 𝓛 I.the_type full_share h rb ro) $ split t $
       use1 𝓛 (‵ (parts_at full_share ms zero (to I.the_type h) rb ro) ⊛ ‵ (fleft full_share (ty_struct [] (raw_tys ms)) (raw_tys ms) rb ro)) (Struct-left 𝓛 full_share (I.the_type).name ms (lones 𝓛) (to I.the_type h) rb ro) $ split t $
@@ -121,7 +121,7 @@ module _ {M : Type 1} {𝓤 : Ura M} {𝓛 : Logic 𝓤} {K : Type 0} {Γ : List
       ∷ ‵ (part_at (Array u32 block_count) full_share h.free rb (ro + free_at)) ∷ ‵ (fat full_share (ty_int w64) rb (ro + spare_at) (vint w64 h.spare)) ∷ ‵ (Rest h rb ro)
       ∷ ‵ (fobor κ q (Body (mem T.the_row) rb ro γ)) ∷ ‵ (fobs γ u) ∷ ‵ (fauth γ v) ∷ Γ) G
   unfolding part_of
-  heap_closes t z h rb ro = step (λ s.
+  heap_closes t z h rb ro = step (λ rest.
       move t (4 ∷ []) $ fsplit t $ move t (1 ∷ []) $ fsplit t $ move t (1 ∷ []) $ fsplit t $ move t (1 ∷ []) $ fsplit t $
       -- [alloc; what is left of the struct; failed; top; left; the pointers; what is owned; free; spare]
       nothing t $ move t (1 ∷ 0 ∷ []) $ fjoin t $
@@ -130,4 +130,4 @@ module _ {M : Type 1} {𝓤 : Ura M} {𝓛 : Logic 𝓤} {K : Type 0} {Γ : List
       use2 𝓛 (‵ (part_at (Struct (shape I.the_type)) full_share (to I.the_type h) rb ro)) (left_Struct 𝓛 full_share (I.the_type).name ms (to I.the_type h) rb ro) $
       use2 𝓛 (‵ (part_at I.the_row full_share h rb ro)) (part_in 𝓛 I.the_type full_share h rb ro) $
       use1 𝓛 (‵ (part_at T.the_row full_share (view h) rb ro)) (Plain-in T.the_row I.the_row T'.the_opens 𝓛 full_share (view h) h (view_made I.the_row State the_code view invariant 𝓛 (view h) h (refl, tt)) rb ro) $
-      close_ref t z (mem T.the_row) (view h) {b = rb} {o = ro} $ s)
+      close_ref t z (mem T.the_row) (view h) {b = rb} {o = ro} $ rest)

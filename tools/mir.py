@@ -2,7 +2,7 @@
 """Prints a function's MIR, one statement to a line, numbered as a walk by hand counts them.
 
     rt check --allow-holes --generated DIR        first, in the crate's folder, with a DIR outside the repository
-    python3 tools/mir.py DIR CRATE PATH/FUNCTION  as: mir.py /tmp/g heap cells/Cells/read
+    python3 tools/mir.py DIR CRATE PATH/FUNCTION  as: mir.py /tmp/g heap Heap/read
 
 The statements of a block, of an arm or of a loop stand indented below it.
 """

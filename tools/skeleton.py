@@ -5,10 +5,10 @@
                               [--opens FILE:NAME] [--requires held,inside] [--ensures 1|2]
 
 CRATE       the crate, as heap
-TYPE        the struct, as cells/Cells
-PATH        where the proof stands below proofs/, as cells/Cells
+TYPE        the struct, as Heap
+PATH        where the proof stands below proofs/, as Heap
 --params    the parameters after `&mut self`
---opens     the file of proofs/ that has NAME_opens and NAME_closes, as OpenCells:cells; without it, std's `opens` and `closes`
+--opens     for a struct with a `view`: the file of proofs/ that has NAME_opens and NAME_closes, as OpenHeap:heap; without it, std's `opens` and `closes`
 --requires  a name for each fact of `requires`, in order, by which the walk cites it; the check finds what it says
 --ensures   how many facts `ensures` has; 2 takes `says_two` from proofs/Facts.antt
 
@@ -29,7 +29,7 @@ options.add_argument("--ensures", type=int, default=1, choices=(1, 2))
 o = options.parse_args()
 
 BITS = {"u8": 8, "u16": 16, "u32": 32, "u64": 64, "usize": 64}
-TAKEN = "c W 𝓣 M y a l are bounds κs qs h h' rb ro numbers r fits rest f R code stayed la us".split()
+TAKEN = "c W 𝓣 M y a l are bounds κs qs h h' rb ro numbers r fits rest f R code stayed la lf fs s seen us".split()
 params = [p.strip().split(":") for p in o.params.split(",") if p.strip()]
 facts = [p.strip() for p in o.requires.split(",") if p.strip()]
 if [p for p in params if len(p) != 2 or p[1] not in BITS] or o.result not in ["unit", "bool"] + list(BITS):
@@ -69,10 +69,13 @@ struct, path = o.type.strip("/").replace("/", "."), o.path.strip("/").replace("/
 file, _, short = o.opens.partition(":")
 if o.opens and not short:
     sys.exit("skeleton.py: --opens is FILE:NAME")
-opens = "%s_opens ! tt h rb ro (λ la." % short if short else "opens ! tt R rb ro (λ us."
+opens = "%s_opens ! tt s rb ro (λ h seen la lf fs." % short if short else "opens ! tt R rb ro (λ us."
+entry, fields, last_value = ("s", "Inside", "(view h')") if short else ("h", "R.Denot", "h'")
 closes = "%s_closes ! tt h' rb ro" % short if short else "closes ! tt R h' us rb ro"
 extra = ["use Rattle.%s.proofs.Facts.{says_two}" % crate] if o.ensures == 2 else []
-extra += ["use Rattle.%s.proofs.%s.{%s_opens, %s_closes}" % (crate, file.replace("/", "."), short, short)] if short else []
+if short:
+    extra += ["use Rattle.%s.specs.declared.%s.TheInside.{Inside}" % (crate, struct), "use Rattle.%s.specs.declared.%s.TheView.{view}" % (crate, struct)]
+    extra += ["use Rattle.%s.proofs.%s.{%s_opens, %s_closes}" % (crate, file.replace("/", "."), short, short)]
 required = " ⊛ ".join(["raw (fact 𝓤 _)"] * len(facts))
 heard = "".join(("split ! $ " if k < len(facts) else "") + "heard ! _ (λ %s. " % fact for k, fact in enumerate(facts, 1))
 
@@ -116,7 +119,7 @@ pub %(function)s_spec : {M : Type 1} → statement M
     proved 𝓛 f.ended stayed c 𝓜 𝓡 %(goes)s
     f.Key.name code.function (code.unfolded 𝓤 𝓛.H 𝓜 𝓡 wired)
     (λ κs. %(vals)s) (λ κs. %(tells)s) (λ κs qs bounds a _ are.
-    let rb = a.0.ref_ptr.0 in let ro = a.0.ref_ptr.1 in let h = a.0.now in%(names)s
+    let rb = a.0.ref_ptr.0 in let ro = a.0.ref_ptr.1 in let %(entry)s = a.0.now in%(names)s
     let numbers : Valss %(rows)s = %(numbers)s in
     let y : W.Ghost = ((κs, qs, bounds, a, (mut_vals a.0, numbers)), tt) in
     qed 𝓛 (((‵ (flft κs.0 qs.0) ⊛ ‵ ftrue) ⊛ ‵ ((MutRef (named 0) κs.0 R).own_val a.0 (mut_vals a.0)) ⊛ ‵ (owns %(rows)s a.1 numbers)) ∷ %(required)s ∷ []) ∵
@@ -127,8 +130,8 @@ pub %(function)s_spec : {M : Type 1} → statement M
     fsplit3 ! $ move ! (1 ∷ 2 ∷ 3 ∷ []) $
     %(opens)s
     -- the value at the exit, as record h { .. }. Steps that open more go above this line
-    %(chosen)slet h' : R.Denot = ? in
-    step (λ (rest : Sq 𝓛 (‵ (fobs a.0.ghost_name (R.coded.code h')) ∷ ‵ (fbor κs.0 (Body (mem R) rb ro a.0.ghost_name)) ∷ ‵ (flft κs.0 qs.0) ∷ ‵ (mut_at a.0 (mut_vals a.0)) ∷ []) (prop (W.post y %(value)s))).
+    %(chosen)slet h' : %(fields)s = ? in
+    step (λ (rest : Sq 𝓛 (‵ (fobs a.0.ghost_name (R.coded.code %(last_value)s)) ∷ ‵ (fbor κs.0 (Body (mem R) rb ro a.0.ghost_name)) ∷ ‵ (flft κs.0 qs.0) ∷ ‵ (mut_at a.0 (mut_vals a.0)) ∷ []) (prop (W.post y %(value)s))).
     -- the walk, a line for each statement, and then: %(closes)s $ returns ! (look_at ! 0 refl) $ free_all ! refl $ rest
     ?) $
     -- [two parts of self; the token; self's first part]
@@ -142,5 +145,5 @@ pub %(function)s_spec : {M : Type 1} → statement M
     vals=nest(["mut_vals"] + ["uint_vals " + width(t) for t in types]), tells=nest(["mut_Tells (named 0) κs.0 R"] + ["uint_Tells " + width(t) for t in types]),
     names="".join(" let %s = a%s.0 in" % (p, ".1" * k) for k, (p, _) in enumerate(params, 1)), rows=listed(types), numbers=nest(["vint %s %s ∷ []" % (width(t), p) for p, t in params]),
     required=("(%s)" % required if len(facts) > 1 else required) or "‵ ftrue", heard="    move ! (1 ∷ []) $ %s\n" % heard.strip() if facts else "",
-    passed=nest(["(tt, tt)"] + ["(tt, record { fits = are%s.0.1 })" % (".1" * k) for k in range(1, n + 1)]), opens=opens, closes=closes, chosen=chosen, value=value, result=result,
-    lasts=nest(["h'"] + ["tt"] * n), fit=nest(["tt"] * (n + 1)), says=("says ! ?", "says_two ! (?, ?)")[o.ensures - 1], joined="nothing ! $ join ! $ " * n, last=last, closed=")" * len(facts)))
+    passed=nest(["(tt, tt)"] + ["(tt, record { fits = are%s.0.1 })" % (".1" * k) for k in range(1, n + 1)]), opens=opens, closes=closes, entry=entry, fields=fields, last_value=last_value, chosen=chosen, value=value, result=result,
+    lasts=nest([last_value.strip("()") if last_value != "h'" else "h'"] + ["tt"] * n), fit=nest(["tt"] * (n + 1)), says=("says ! ?", "says_two ! (?, ?)")[o.ensures - 1], joined="nothing ! $ join ! $ " * n, last=last, closed=")" * len(facts)))

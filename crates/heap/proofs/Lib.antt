@@ -4,8 +4,9 @@ mod FreeList
 mod Turns
 mod Focus
 mod Elements
-mod OpenCells
+mod OpenHeap
 mod OneBlock
 mod Facts
-mod EmptyCells
 mod BlockBox
+mod Lits
+mod EmptyHeap

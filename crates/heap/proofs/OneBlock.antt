@@ -20,7 +20,7 @@ use Rattle.heap.specs.Sizes.{block_words, block_count}
 use Rattle.heap.specs.Owned.{token, one, owned}
 use Rattle.heap.proofs.Focus.{without, focus, unfocus}
 use Rattle.heap.proofs.Elements.{take_out, put_in}
-use Rattle.heap.proofs.OpenCells.{ptr_out, ptr_in}
+use Rattle.heap.proofs.OpenHeap.{ptr_out, ptr_in}
 
 abbrev pub block_ty : Ty
 block_ty = ty_array (ty_int w64) block_words

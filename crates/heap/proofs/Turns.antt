@@ -1,9 +1,10 @@
 -- What stays true of a heap when a block is obtained or released, and what the ground is then. Assumes nothing.
 use Rattle.std.proofs.Common.{◌≡◌, ℕ, suc, ◌+◌, ◌-◌, ◌<◌, ◌≤◌, Bool, cond, eqb, List, [], ◌∷◌, length, get_or, set, Some, sym, refl, ap, ◌∙◌, subst, length-set, arith, not-suc-le-zero}
-use Rattle.things.specs.Ground.{Obtains, got as gets, released}
+use Rattle.things.specs.Ground.{Obtains, got as gets, released, written}
 use Rattle.heap.specs.Sizes.{block_words, block_count}
 use Rattle.heap.specs.Owned.{held, ground_of}
 use Rattle.heap.specs.FreeList.{Valid, Unheld, Distinct}
+use Rattle.heap.specs.declared.Heap.TheInside.{Inside}
 use Rattle.heap.proofs.Grounds.{ground_is, block_set, lengths_same}
 use Rattle.heap.proofs.HeldCount.{held_more, held_less, held_same, below_length}
 use Rattle.heap.proofs.FreeList.{push_valid, push_unheld, push_distinct, pop_valid, pop_unheld, pop_distinct}
@@ -12,43 +13,55 @@ no_words : (ws : List ℕ) → length ws ≡ 0 → ws ≡ []
 no_words [] e = refl
 no_words (w ∷ ws) e = let z : suc (length ws) ≤ 0 = omega arith in absurd (not-suc-le-zero z)
 
--- the facts that a heap keeps of its blocks and its free list
-abbrev pub Kept : List (List ℕ) → List ℕ → ℕ → Type 0
-Kept wss free n = (held wss + n ≡ block_count) × (Valid free n × (Unheld free n wss × (Distinct free n × Unit {0})))
-
 filled : (wss : List (List ℕ)) (b : ℕ) (ws : List ℕ) → b < length wss → length (get_or wss b []) ≡ 0 → length ws ≡ block_words → held (set wss b ws) ≡ held wss + 1
 filled wss b [] l e f = let z : 1 ≤ 0 = omega arith in absurd (not-suc-le-zero z)
 filled wss b (w ∷ ws) l e f = held_more wss b w ws l e
 
-module _ (wss : List (List ℕ)) (sized : length wss ≡ block_count) (free : List ℕ) (n : ℕ) (counts : held wss + n ≡ block_count)
-    (valid : Valid free n) (unheld : Unheld free n wss) (distinct : Distinct free n) where
-  module _ (some : n ≡ 0 → ⊥) (ws : List ℕ) (full : length ws ≡ block_words) where
+-- the facts that a heap keeps of its blocks and its free list
+pub record Kept (wss : List (List ℕ)) (free : List ℕ) (n : ℕ) : Type 0 where
+  pub sized : length wss ≡ block_count
+  pub counts : held wss + n ≡ block_count
+  pub valid : Valid free n
+  pub unheld : Unheld free n wss
+  pub distinct : Distinct free n
+
+abbrev pub kept_of : (h : Inside) → Kept h.words h.free h.spare
+kept_of h = record { sized = h.sized; counts = h.counts; valid = h.valid; unheld = h.unheld; distinct = h.distinct }
+
+module _ (wss : List (List ℕ)) (free : List ℕ) (n : ℕ) (kept : Kept wss free n) where
+  open kept use {sized, counts, valid, unheld, distinct}
+
+  module _ (pos : 0 < n) (ws : List ℕ) (full : length ws ≡ block_words) where
     abbrev b : ℕ
     b = get_or free (n - 1) 0
 
-    pos : 0 < n
-    pos = omega (arith, some)
-
     top : n - 1 < n
-    top = let p = pos in omega arith
+    top = omega arith
 
     pub obtained_below : b < block_count
     obtained_below = valid (n - 1) top
 
+    -- its place on the free list
+    pub obtained_list : n - 1 < block_count
+    obtained_list = omega (arith, pos, counts)
+
     inside : b < length wss
     inside = let v = obtained_below in omega arith
+
+    pub obtained_slot : (b < length wss) × (length (get_or wss b []) ≡ 0)
+    obtained_slot = (inside, unheld (n - 1) top)
 
     more : held (set wss b ws) ≡ held wss + 1
     more = filled wss b ws inside (unheld (n - 1) top) full
 
     pub obtained_keeps : Kept (set wss b ws) free (n - 1)
-    obtained_keeps =
-        (let e = more in let p = pos in omega arith, (pop_valid free n pos valid, (pop_unheld free n pos wss ws distinct unheld, (pop_distinct free n pos distinct, tt))))
-
-    pub obtained : (l t : ℕ) (y : Bool) → Obtains (ground_of wss l t y) (Some b) (ground_of (set wss b ws) (l - 1) t y)
-    obtained l t y = subst (Obtains (ground_of wss l t y) (Some b))
-        (sym (ground_is (λ c. get_or (set wss b ws) c []) (λ c. cond (eqb c b) ws (get_or wss c [])) (block_set wss b ws inside) (held (set wss b ws)) (held wss + 1) more (l - 1) t y))
-        (gets b ws (let v = obtained_below in omega arith) (no_words (get_or wss b []) (unheld (n - 1) top)) full)
+    obtained_keeps = record {
+      sized = length-set wss b ws ∙ sized;
+      counts = let e = more in omega arith;
+      valid = pop_valid free n pos valid;
+      unheld = pop_unheld free n pos wss ws distinct unheld;
+      distinct = pop_distinct free n pos distinct;
+    }
 
   module _ (b : ℕ) (full : length (get_or wss b []) ≡ block_words) where
     used : 0 < length (get_or wss b [])
@@ -69,12 +82,42 @@ module _ (wss : List (List ℕ)) (sized : length wss ≡ block_count) (free : Li
     pub released_keeps : length free ≡ block_count → Kept (set wss b []) (set free n b) (n + 1)
     released_keeps lf =
         let fit : n < length free = let r = released_room in omega arith in
-        (let e = fewer in omega arith, (push_valid free n b fit valid released_below, (push_unheld free n b fit wss unheld within, (push_distinct free n b fit wss unheld used distinct, tt))))
-
-    pub released_is : (l t : ℕ) (y : Bool) → ground_of (set wss b []) (l - 1) t y ≡ released b (ground_of wss l t y)
-    released_is l t y = ground_is (λ c. get_or (set wss b []) c []) (λ c. cond (eqb c b) [] (get_or wss c [])) (block_set wss b [] within) (held (set wss b [])) (held wss - 1) (let e = fewer in omega arith) (l - 1) t y
+        record {
+          sized = length-set wss b [] ∙ sized;
+          counts = let e = fewer in omega arith;
+          valid = push_valid free n b fit valid released_below;
+          unheld = push_unheld free n b fit wss unheld within;
+          distinct = push_distinct free n b fit wss unheld used distinct;
+        }
 
   pub written_keeps : (b i x : ℕ) → Kept (set wss b (set (get_or wss b []) i x)) free n
   written_keeps b i x =
-      let same : length (set (get_or wss b []) i x) ≡ length (get_or wss b []) = length-set (get_or wss b []) i x in
-      (ap (λ (m : ℕ). m + n) (held_same wss b _ same) ∙ counts, (valid, (λ j l. lengths_same wss b _ same (get_or free j 0) ∙ unheld j l, (distinct, tt))))
+      let ws : List ℕ = set (get_or wss b []) i x in let same : length ws ≡ length (get_or wss b []) = length-set (get_or wss b []) i x in
+      record {
+        sized = length-set wss b ws ∙ sized;
+        counts = ap (λ (m : ℕ). m + n) (held_same wss b ws same) ∙ counts;
+        valid = valid;
+        unheld = λ j l. lengths_same wss b ws same (get_or free j 0) ∙ unheld j l;
+        distinct = distinct;
+      }
+
+-- what the ground is then
+module _ (wss : List (List ℕ)) where
+  pub obtained : (b : ℕ) (ws : List ℕ) → length wss ≡ block_count → (b < length wss) × (length (get_or wss b []) ≡ 0) → length ws ≡ block_words
+      → (l t : ℕ) (y : Bool) → Obtains (ground_of wss l t y) (Some b) (ground_of (set wss b ws) (l - 1) t y)
+  obtained b ws sized slot full l t y = subst (Obtains (ground_of wss l t y) (Some b))
+      (sym (ground_is (λ c. get_or (set wss b ws) c []) (λ c. cond (eqb c b) ws (get_or wss c [])) (block_set wss b ws slot.0) (held (set wss b ws)) (held wss + 1) (filled wss b ws slot.0 slot.1 full) (l - 1) t y))
+      (gets b ws (let i = slot.0 in omega arith) (no_words (get_or wss b []) slot.1) full)
+
+  pub released_is : (b : ℕ) → length (get_or wss b []) ≡ block_words → (l t : ℕ) (y : Bool) → ground_of (set wss b []) (l - 1) t y ≡ released b (ground_of wss l t y)
+  released_is b full l t y =
+      let used : 0 < length (get_or wss b []) = omega arith in let within : b < length wss = below_length wss b used in
+      let fewer : held wss ≡ held (set wss b []) + 1 = held_less wss b within used in
+      ground_is (λ c. get_or (set wss b []) c []) (λ c. cond (eqb c b) [] (get_or wss c [])) (block_set wss b [] within) (held (set wss b [])) (held wss - 1) (omega arith) (l - 1) t y
+
+  pub written_is : (b i x : ℕ) → length (get_or wss b []) ≡ block_words
+      → (l t : ℕ) (y : Bool) → ground_of (set wss b (set (get_or wss b []) i x)) (l - 1) t y ≡ written b i x (ground_of wss l t y)
+  written_is b i x full l t y =
+      let used : 0 < length (get_or wss b []) = omega arith in let within : b < length wss = below_length wss b used in
+      let ws : List ℕ = set (get_or wss b []) i x in
+      ground_is (λ c. get_or (set wss b ws) c []) (λ c. cond (eqb c b) ws (get_or wss c [])) (block_set wss b ws within) (held (set wss b ws)) (held wss) (held_same wss b ws (length-set (get_or wss b []) i x)) (l - 1) t y

@@ -1,3 +1,4 @@
 pub mod Owned
 pub mod Sizes
 pub mod FreeList
+pub mod State

@@ -1,4 +1,4 @@
--- The sizes of a heap, as src/cells.rt has them in WORDS and BLOCKS.
+-- The sizes of a heap, as src/lib.rt has them in WORDS and BLOCKS.
 -- Assumes nothing.
 use Rattle.std.specs.Prelude.{ℕ, ◌*◌}
 

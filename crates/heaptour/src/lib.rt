@@ -33,8 +33,8 @@ pub fn carry(memory: Memory, x: u64) -> Option<u64>
 
 // Lets a heap go of which it isn't known whether it holds anything, and says whether nothing is lost.
 pub fn let_go(mut h: Heap) -> bool
-    ensures dropped { result ≡ true → held h.cells.words ≡ 0 }
-    ensures leaked { result ≡ false → 0 < held h.cells.words }
+    ensures dropped { result ≡ true → held h.words ≡ 0 }
+    ensures leaked { result ≡ false → 0 < held h.words }
 {
     if h.many() == 0 {
         h.drop();

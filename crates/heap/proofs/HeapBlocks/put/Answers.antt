@@ -1,10 +1,11 @@
-use Rattle.std.proofs.Common.{ℕ, List, sym, subst}
-use Rattle.heap.proofs.Turns.{Kept, written_keeps}
+use Rattle.std.proofs.Common.{◌≡◌, [], length, get_or, sym, subst}
+use Rattle.heap.specs.Sizes.{block_words}
+use Rattle.heap.specs.State.{State}
+use Rattle.heap.proofs.Turns.{written_is}
 use Rattle.heap.proofs.HeapBlocks.put.Goals as goal
 
-pub invariant_of-self : goal.invariant_of-self
-invariant_of-self c =
-    let h = c.args.self.now in
-    let k = subst (λ (wss : List (List ℕ)). Kept wss h.free h.spare) (sym c.write.ensures)
-    (written_keeps h.cells.words h.cells.sized h.free h.spare h.counts h.valid h.unheld h.distinct c.args.b c.args.i c.args.x) in
-    record { counts = k.0; valid = k.1.0; unheld = k.1.1.0; distinct = k.1.1.1.0 }
+pub returns : goal.returns
+returns c =
+    let h = c.self.inside in let b = c.args.b in
+    let full : length (get_or h.words b []) ≡ block_words = subst (λ (s : State). length (get_or s.words b []) ≡ block_words) (sym c.self.view_is) c.requires.1.0.1 in
+    rw (c.write.ensures, ← c.self.view_is) (written_is h.words b c.args.i c.args.x full h.left h.top h.failed)

@@ -1,15 +1,11 @@
-use Rattle.std.proofs.Common.{rules, ℕ, ◌+◌, List, set, sym, subst}
-use Rattle.heap.proofs.Turns.{Kept, released_room, released_keeps}
+use Rattle.std.proofs.Common.{◌≡◌, [], length, get_or, sym, subst}
+use Rattle.heap.specs.Sizes.{block_words}
+use Rattle.heap.specs.State.{State}
+use Rattle.heap.proofs.Turns.{released_is}
 use Rattle.heap.proofs.HeapBlocks.release.Goals as goal
 
-pub bounds-self-k : goal.bounds-self-k
-bounds-self-k c =
-    let h = c.args.self.now in
-    released_room h.cells.words h.cells.sized h.free h.spare h.counts h.valid h.unheld h.distinct c.args.b c.requires.1.1
-
-pub invariant_of-self : goal.invariant_of-self
-invariant_of-self c =
-    let h = c.args.self.now in
-    let k = subst (λ (wss : List (List ℕ)). Kept wss (set h.free h.spare c.args.b) (h.spare + 1)) (sym c.take_out.ensures.others)
-    (released_keeps h.cells.words h.cells.sized h.free h.spare h.counts h.valid h.unheld h.distinct c.args.b c.requires.1.1 (search rules)) in
-    record { counts = k.0; valid = k.1.0; unheld = k.1.1.0; distinct = k.1.1.1.0 }
+pub returns : goal.returns
+returns c =
+    let h = c.self.inside in let b = c.args.b in
+    let full : length (get_or h.words b []) ≡ block_words = subst (λ (s : State). length (get_or s.words b []) ≡ block_words) (sym c.self.view_is) c.requires.1.1 in
+    rw (c.let_go.ensures.others, ← c.self.view_is) (released_is h.words b full h.left h.top h.failed)

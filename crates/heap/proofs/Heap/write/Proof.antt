@@ -1,5 +1,5 @@
 -- `write` stores a word of a block. Assumes `Logic`.
-use Rattle.std.proofs.Common.{◌≡◌, ℕ, ◌+◌, ◌*◌, ◌^◌, ◌<◌, List, [], ◌∷◌, length, get_or, set, refl, ◌∙◌, length-set, arith, w32, w64}
+use Rattle.std.proofs.Common.{◌≡◌, ℕ, ◌+◌, ◌*◌, ◌^◌, ◌<◌, List, [], ◌∷◌, length, get_or, set, sym, subst, refl, length-set, arith, w32, w64}
 use Rattle.std.proofs.raw_atomic.Walks.{proved}
 use base.Fraction.{full_share}
 use base.Fml.{ftrue, fat, flft}
@@ -22,15 +22,19 @@ use denote.Signature.{plain}
 use denote.Steps.{nothing, heard}
 use denote.Triple.Walked.{Stays, walk_of, says, stay_dropped, Goes-dropped, stay_ref, Goes-ref, ends_at}
 use Rattle.heap.specs.Sizes.{block_words, block_count}
-use Rattle.heap.specs.contracts.cells.Cells.{the_row as R}
-use Rattle.heap.specs.contracts.cells.Cells.write as f
+use Rattle.heap.specs.State.{State}
+use Rattle.heap.specs.declared.Heap.TheInside.{Inside}
+use Rattle.heap.specs.declared.Heap.TheView.{view}
+use Rattle.heap.specs.contracts.Heap.{the_row as R}
+use Rattle.heap.specs.contracts.Heap.write as f
 use Rattle.std.proofs.VecSteps.Shapes.{after}
 use Rattle.heap.proofs.HeldCount.{below_length}
 use Rattle.heap.proofs.Elements.{take_out, put_in}
-use Rattle.heap.proofs.OpenCells.{cells_opens, cells_closes}
+use Rattle.heap.proofs.OpenHeap.{heap_opens, heap_closes}
+use Rattle.heap.proofs.Turns.{kept_of, written_keeps}
 use Rattle.heap.proofs.OneBlock.{block_out, block_in}
-use Rattle.heap.proofs.cells.Cells.write.Statement.{statement}
-use Rattle.heap.proofs.cells.Cells.write.Code as code
+use Rattle.heap.proofs.Heap.write.Statement.{statement}
+use Rattle.heap.proofs.Heap.write.Code as code
 
 abbrev stayed : Stays f.ended.signature.params f.ended.kept
 stayed = (stay_ref (0 ∷ []) tt (plain (λ _. R)), (stay_dropped _ yes, (stay_dropped _ yes, (stay_dropped _ yes, tt))))
@@ -42,17 +46,18 @@ write_spec 𝓤 𝓛 𝓜 𝓡 wired =
     proved 𝓛 f.ended stayed c 𝓜 𝓡 (Goes-ref 𝓛 1 0 tt (plain (λ _. R)), (goes, (goes, (Goes-dropped 𝓛 1 (plain (λ _. u64)) yes (λ κs x w. refl), tt))))
     f.Key.name code.function (code.unfolded 𝓤 𝓛.H 𝓜 𝓡 wired)
     (λ κs. (mut_vals, (uint_vals w32, (uint_vals w32, (uint_vals w64, tt))))) (λ κs. (mut_Tells (named 0) κs.0 R, (uint_Tells w32, (uint_Tells w32, (uint_Tells w64, tt))))) (λ κs qs bounds a _ are.
-    let rb = a.0.ref_ptr.0 in let ro = a.0.ref_ptr.1 in let h = a.0.now in let b = a.1.0 in let i = a.1.1.0 in let x = a.1.1.1.0 in
-    let ws : List ℕ = get_or h.words b [] in let new : List ℕ = set ws i x in
+    let rb = a.0.ref_ptr.0 in let ro = a.0.ref_ptr.1 in let s = a.0.now in let b = a.1.0 in let i = a.1.1.0 in let x = a.1.1.1.0 in
     let numbers : Valss (u32 ∷ u32 ∷ u64 ∷ []) = (vint w32 b ∷ [], (vint w32 i ∷ [], (vint w64 x ∷ [], tt))) in
     let y : W.Ghost = ((κs, qs, bounds, a, (mut_vals a.0, numbers)), tt) in
-    qed 𝓛 (((‵ (flft κs.0 qs.0) ⊛ ‵ ftrue) ⊛ ‵ ((MutRef (named 0) κs.0 R).own_val a.0 (mut_vals a.0)) ⊛ ‵ (owns (u32 ∷ u32 ∷ u64 ∷ []) a.1 numbers)) ∷ (raw (fact 𝓤 (length ws ≡ block_words)) ⊛ raw (fact 𝓤 (i < block_words))) ∷ []) ∵
-    move ! (1 ∷ []) $ split ! $ heard ! _ (λ full. heard ! _ (λ inside.
+    qed 𝓛 (((‵ (flft κs.0 qs.0) ⊛ ‵ ftrue) ⊛ ‵ ((MutRef (named 0) κs.0 R).own_val a.0 (mut_vals a.0)) ⊛ ‵ (owns (u32 ∷ u32 ∷ u64 ∷ []) a.1 numbers)) ∷ (raw (fact 𝓤 (length (get_or s.words b []) ≡ block_words)) ⊛ raw (fact 𝓤 (i < block_words))) ∷ []) ∵
+    move ! (1 ∷ []) $ split ! $ heard ! _ (λ full₀. heard ! _ (λ inside.
     split ! $ split ! $ move ! (2 ∷ []) $ split ! $ keep ! (0 ∷ 2 ∷ []) $
     enter ! _ _ _ _ _ $
     alloc_all ! (λ l. pass_all ! refl ((tt, tt), ((tt, record { fits = are.1.0.1 }), ((tt, record { fits = are.1.1.0.1 }), ((tt, record { fits = are.1.1.1.0.1 }), tt)))) $
     fsplit3 ! $ move ! (1 ∷ 2 ∷ 3 ∷ []) $
-    cells_opens ! tt h rb ro (λ la.
+    heap_opens ! tt s rb ro (λ h seen la lf fs.
+    let ws : List ℕ = get_or h.words b [] in let new : List ℕ = set ws i x in
+    let full : length ws ≡ block_words = subst (λ (t : State). length (get_or t.words b []) ≡ block_words) (sym seen) full₀ in
     let used : 0 < length ws = omega (arith, full) in let some : 0 < length new = omega (arith, full, length-set ws i x) in
     let lt : b < length h.words = below_length h.words b used in let bl : b < block_count = omega (arith, lt, h.sized) in
     let fb : b < 2 ^ 64 = omega (arith, bl) in let fb8 : b * 8 < 2 ^ 64 = omega (arith, bl) in
@@ -60,7 +65,7 @@ write_spec 𝓤 𝓛 𝓜 𝓡 wired =
     block_out ! h.at h.words b rb (ro + 0) bl la used (λ bb oo e.
     move ! (2 ∷ []) $ use1 𝓛 (given (length ws ≡ block_words) (‵ (part_at u64 full_share (get_or ws i 0) bb (i * 8 + oo)) ⊛ ‵ (others (shares u64) full_share ws i bb oo))) (take_out 𝓛 u64 tt block_words ws i 0 bb oo inside) $ learn ! (λ l64. split ! $
     use1 𝓛 (‵ (fat full_share (ty_int w64) bb (i * 8 + oo) (vint w64 (get_or ws i 0)))) (uint_out 𝓛 full_share w64 (get_or ws i 0) bb (i * 8 + oo)) $
-    -- [the word; the other words; the pointer; the other pointers; the token; the other blocks; the rest]
+    -- [the word; the other words; the pointer; the other pointers; the token; the other blocks; ..]
     sets ! (un ! (get ! refl) (record { fits = fb })) refl (tt, record { fits = fb }) $
     sets ! (bin ! (get ! refl) (lit ! tt) (record { fits = fb8 })) refl (tt, record { fits = fb8 }) $
     sets ! (addr ! (through ! refl (fld ! refl (stop !)))) refl (tt, tt) $
@@ -78,11 +83,12 @@ write_spec 𝓤 𝓛 𝓜 𝓡 wired =
     use1 𝓛 (‵ (part_at u64 full_share x bb (i * 8 + oo))) (uint_in 𝓛 full_share w64 x bb (i * 8 + oo)) $
     use2 𝓛 (‵ (part_at (Array u64 block_words) full_share new bb oo)) (put_in 𝓛 u64 tt block_words ws i x bb oo inside l64) $
     move ! (1 ∷ 2 ∷ 0 ∷ []) $ block_in ! h.at h.words b rb (ro + 0) bb oo new bl la e some $
-    let h' = record h { words = set h.words b new; sized = length-set h.words b new ∙ h.sized } in
-    cells_closes ! tt h' rb ro $
+    let keeps = written_keeps h.words h.free h.spare (kept_of h) b i x in
+    let h' : Inside = record h { words = set h.words b new; sized = keeps.sized; counts = keeps.counts; valid = keeps.valid; unheld = keeps.unheld; distinct = keeps.distinct } in
+    heap_closes ! tt h' rb ro $
     returns ! (look_at ! 0 refl) $ free_all ! refl $
     -- [two parts of self; the token; self's first part]
     move ! (3 ∷ []) $
-    suffices ! _ (ends_at 𝓛 f.ended stayed c y vunit tt (h', (tt, (tt, (tt, tt)))) (tt, (tt, (tt, (tt, tt))))) $ says ! refl $
+    suffices ! _ (ends_at 𝓛 f.ended stayed c y vunit tt (view h', (tt, (tt, (tt, tt)))) (tt, (tt, (tt, (tt, tt))))) $ says ! (subst (λ (t : State). view h' ≡ record t { words = set t.words b (set (get_or t.words b []) i x) }) seen refl) $
     group ! 3 $ nothing ! $ nothing ! $ join ! $ nothing ! $ join ! $ nothing ! $ join ! $ move ! (1 ∷ 0 ∷ []) $ join ! $ nothing ! $ move ! (2 ∷ 0 ∷ []) $ join ! $ frame ! $ frame ! $
     feq_i ! _ (vunit ∷ []) _ refl $ done !)))))))

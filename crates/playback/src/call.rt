@@ -1,12 +1,14 @@
 // A call as numbers.
-ghost use Rattle.std.specs.Prelude.{◌≡◌, T};
+ghost use Rattle.std.specs.Prelude.{◌≡◌, Some, T};
+ghost use Rattle.std.specs.Result.{result_ok};
 ghost use Rattle.playback.specs.Numbers.{op_in, op_of};
 
+use crate::code;
 use things::Op;
 
-// Which of the 18 calls it is, in the order of `Op`, and what stands behind it; what a call doesn't have is not looked at.
+// Which of the 18 calls it is, and what stands behind it; what a call doesn't have is not looked at.
 #[repr(C)]
-#[derive(Clone, Copy)]
+#[derive(Clone, Copy, PartialEq, Eq, Default)]
 pub struct Asked {
     pub code: u32,
     pub name: u32,
@@ -19,15 +21,19 @@ pub struct Asked {
 
 // What is asked, and which blocks are refused meanwhile: the getting with this number, and every one while `room` blocks are held; 0: none.
 #[repr(C)]
-#[derive(Clone, Copy)]
+#[derive(Clone, Copy, Default)]
 pub struct Call {
     pub asked: Asked,
     pub refuse: u64,
     pub room: u64,
 }
 
+// Its code is of no call.
+#[derive(Clone, Copy, Debug, PartialEq, Eq)]
+pub struct UnknownCode;
+
 impl Asked {
-    pub(crate) fn new(code: u32, name: u32, other: u32, at: u64, word: u64) -> Asked
+    fn new(code: u32, name: u32, other: u32, at: u64, word: u64) -> Asked
         ensures { result ≡ record { code = code; name = name; other = other; «at» = «at»; word = word } }
     {
         Asked {
@@ -39,78 +45,77 @@ impl Asked {
         }
     }
 
-    pub fn of(o: Op) -> Asked
-        ensures { op_of result ≡ o }
+    // Whether this asks what a call does, in which what it doesn't have may differ.
+    pub(crate) fn asks_as(self, call: Asked) -> bool
+        ensures { T result → op_of self ≡ op_of call }
     {
-        match o {
-            Op::Row(n) => Asked::new(0, n, 0, 0, 0),
-            Op::Table(n) => Asked::new(1, n, 0, 0, 0),
-            Op::Free(n) => Asked::new(2, n, 0, 0, 0),
-            Op::Length(n) => Asked::new(3, n, 0, 0, 0),
-            Op::At(n, i) => Asked::new(4, n, 0, i, 0),
-            Op::Set(n, i, x) => Asked::new(5, n, 0, i, x),
-            Op::Insert(n, i, x) => Asked::new(6, n, 0, i, x),
-            Op::Delete(n, i) => Asked::new(7, n, 0, i, 0),
-            Op::Split(n, i, m) => Asked::new(8, n, m, i, 0),
-            Op::Join(n, m) => Asked::new(9, n, m, 0, 0),
-            Op::Put(n, k, x) => Asked::new(10, n, 0, k, x),
-            Op::Get(n, k) => Asked::new(11, n, 0, k, 0),
-            Op::Drop(n, k) => Asked::new(12, n, 0, k, 0),
-            Op::Least(n, k) => Asked::new(13, n, 0, k, 0),
-            Op::Count(n, k) => Asked::new(14, n, 0, k, 0),
-            Op::Nth(n, i) => Asked::new(15, n, 0, i, 0),
-            Op::Cut(n, k, m) => Asked::new(16, n, m, k, 0),
-            Op::Merge(n, m) => Asked::new(17, n, m, 0, 0),
+        match Op::try_from(call) {
+            Ok(o) => self == Asked::from(o),
+            Err(_) => false,
         }
     }
+}
 
-    // None where the code is of no call.
-    pub fn op(self) -> Option<Op>
-        ensures { result ≡ op_in self }
-    {
+impl From<Op> for Asked {
+    ghost from_gives = { λ o asked. op_in asked ≡ Some o };
+
+    fn from(o: Op) -> Asked {
+        match o {
+            Op::Row(n) => Asked::new(code::ROW, n, 0, 0, 0),
+            Op::Table(n) => Asked::new(code::TABLE, n, 0, 0, 0),
+            Op::Free(n) => Asked::new(code::FREE, n, 0, 0, 0),
+            Op::Length(n) => Asked::new(code::LENGTH, n, 0, 0, 0),
+            Op::At(n, i) => Asked::new(code::AT, n, 0, i, 0),
+            Op::Set(n, i, x) => Asked::new(code::SET, n, 0, i, x),
+            Op::Insert(n, i, x) => Asked::new(code::INSERT, n, 0, i, x),
+            Op::Delete(n, i) => Asked::new(code::DELETE, n, 0, i, 0),
+            Op::Split(n, i, m) => Asked::new(code::SPLIT, n, m, i, 0),
+            Op::Join(n, m) => Asked::new(code::JOIN, n, m, 0, 0),
+            Op::Put(n, k, x) => Asked::new(code::PUT, n, 0, k, x),
+            Op::Get(n, k) => Asked::new(code::GET, n, 0, k, 0),
+            Op::Drop(n, k) => Asked::new(code::DROP, n, 0, k, 0),
+            Op::Least(n, k) => Asked::new(code::LEAST, n, 0, k, 0),
+            Op::Count(n, k) => Asked::new(code::COUNT, n, 0, k, 0),
+            Op::Nth(n, i) => Asked::new(code::NTH, n, 0, i, 0),
+            Op::Cut(n, k, m) => Asked::new(code::CUT, n, m, k, 0),
+            Op::Merge(n, m) => Asked::new(code::MERGE, n, m, 0, 0),
+        }
+    }
+}
+
+impl TryFrom<Asked> for Op {
+    type Error = UnknownCode;
+
+    ghost try_from_gives = { λ asked o. result_ok o ≡ op_in asked };
+
+    fn try_from(asked: Asked) -> Result<Op, UnknownCode> {
         let Asked {
             code,
             name: n,
             other: m,
             at: i,
             word: x,
-        } = self;
-        match code {
-            0 => Some(Op::Row(n)),
-            1 => Some(Op::Table(n)),
-            2 => Some(Op::Free(n)),
-            3 => Some(Op::Length(n)),
-            4 => Some(Op::At(n, i)),
-            5 => Some(Op::Set(n, i, x)),
-            6 => Some(Op::Insert(n, i, x)),
-            7 => Some(Op::Delete(n, i)),
-            8 => Some(Op::Split(n, i, m)),
-            9 => Some(Op::Join(n, m)),
-            10 => Some(Op::Put(n, i, x)),
-            11 => Some(Op::Get(n, i)),
-            12 => Some(Op::Drop(n, i)),
-            13 => Some(Op::Least(n, i)),
-            14 => Some(Op::Count(n, i)),
-            15 => Some(Op::Nth(n, i)),
-            16 => Some(Op::Cut(n, i, m)),
-            17 => Some(Op::Merge(n, m)),
-            _ => None,
-        }
+        } = asked;
+        Ok(match code {
+            code::ROW => Op::Row(n),
+            code::TABLE => Op::Table(n),
+            code::FREE => Op::Free(n),
+            code::LENGTH => Op::Length(n),
+            code::AT => Op::At(n, i),
+            code::SET => Op::Set(n, i, x),
+            code::INSERT => Op::Insert(n, i, x),
+            code::DELETE => Op::Delete(n, i),
+            code::SPLIT => Op::Split(n, i, m),
+            code::JOIN => Op::Join(n, m),
+            code::PUT => Op::Put(n, i, x),
+            code::GET => Op::Get(n, i),
+            code::DROP => Op::Drop(n, i),
+            code::LEAST => Op::Least(n, i),
+            code::COUNT => Op::Count(n, i),
+            code::NTH => Op::Nth(n, i),
+            code::CUT => Op::Cut(n, i, m),
+            code::MERGE => Op::Merge(n, m),
+            _ => return Err(UnknownCode),
+        })
     }
-}
-
-// Whether two ask the same; what a call doesn't have may differ in the second.
-pub(crate) fn asks_same(told: Asked, call: Asked) -> bool
-    ensures { T result → op_of told ≡ op_of call }
-{
-    match call.op() {
-        Some(o) => is_same(told, Asked::of(o)),
-        None => false,
-    }
-}
-
-fn is_same(a: Asked, b: Asked) -> bool
-    ensures { T result → a ≡ b }
-{
-    a.code == b.code && a.name == b.name && a.other == b.other && a.at == b.at && a.word == b.word
 }

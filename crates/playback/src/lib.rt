@@ -5,12 +5,14 @@ ghost use Rattle.std.specs.Prelude.{◌≡◌};
 ghost use Rattle.playback.specs.Outcomes.{Ended, FirstUnknown};
 
 mod call;
+mod code;
 mod note;
 mod planned;
 mod play;
 mod player;
 
-pub use call::{Asked, Call};
+pub use call::{Asked, Call, UnknownCode};
+use code::CODES;
 use lent::Lent;
 pub use note::{Note, Reply};
 pub use planned::Planned;
@@ -23,11 +25,10 @@ use things::Users;
 pub extern "C" fn playback_first_unknown(calls: &[Call]) -> usize
     ensures { FirstUnknown calls.now result }
 {
-    let mut n = 0;
-    while n < calls.len() && calls[n].asked.code < 18 {
-        n += 1;
-    }
-    n
+    calls
+        .iter()
+        .position(|c| c.asked.code >= CODES)
+        .unwrap_or(calls.len())
 }
 
 // All calls, one after another, on as many blocks as `words` and `free` have room for; nothing is held in the end.

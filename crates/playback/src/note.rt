@@ -1,4 +1,6 @@
 // An answer as numbers, and what is noted with it.
+ghost use Rattle.std.specs.Prelude.{◌≡◌};
+ghost use Rattle.playback.specs.Numbers.{answer_of};
 ghost use Rattle.playback.specs.Played.{Tells};
 
 use crate::call::Asked;
@@ -7,7 +9,7 @@ use things::{Answer, Op};
 // The answer: 0 done, 1 the word `a`, 2 the pair `a` and `b`, 3 turned away by the number `reason`, 4 full.
 // With it whether a block was refused meanwhile (1), and how many were held then.
 #[repr(C)]
-#[derive(Clone, Copy)]
+#[derive(Clone, Copy, Default)]
 pub struct Reply {
     pub tag: u32,
     pub reason: u32,
@@ -15,6 +17,27 @@ pub struct Reply {
     pub b: u64,
     pub refused: u64,
     pub held: u64,
+}
+
+impl From<Answer> for Reply {
+    ghost from_gives = { λ a reply. answer_of reply ≡ a };
+
+    fn from(a: Answer) -> Reply {
+        let (tag, reason, first, second) = match a {
+            Answer::Done => (0, 0, 0, 0),
+            Answer::Word(x) => (1, 0, x, 0),
+            Answer::Pair(k, x) => (2, 0, k, x),
+            Answer::No(k) => (3, k, 0, 0),
+            Answer::Full => (4, 0, 0, 0),
+        };
+        Reply {
+            tag,
+            reason,
+            a: first,
+            b: second,
+            ..Reply::default()
+        }
+    }
 }
 
 // What was asked, and the reply.
@@ -29,22 +52,12 @@ impl Note {
     pub fn of(o: Op, a: Answer, failed: bool, many: u64) -> Note
         ensures { Tells o a failed many result }
     {
-        let (tag, reason, first, second) = match a {
-            Answer::Done => (0, 0, 0, 0),
-            Answer::Word(x) => (1, 0, x, 0),
-            Answer::Pair(k, x) => (2, 0, k, x),
-            Answer::No(k) => (3, k, 0, 0),
-            Answer::Full => (4, 0, 0, 0),
-        };
         Note {
-            asked: Asked::of(o),
+            asked: Asked::from(o),
             reply: Reply {
-                tag,
-                reason,
-                a: first,
-                b: second,
-                refused: if failed { 1 } else { 0 },
+                refused: u64::from(failed),
                 held: many,
+                ..Reply::from(a)
             },
         }
     }

@@ -5,7 +5,7 @@ ghost use Rattle.ration.specs.Refusing.{begun, ground_of};
 ghost use Rattle.playback.specs.Planned.{following, planned, spent};
 ghost use Rattle.playback.specs.Played.{idle};
 
-use crate::call::{Asked, Call};
+use crate::call::Call;
 use ration::Ration;
 use things::{Blocks, Bounds};
 
@@ -13,15 +13,7 @@ use things::{Blocks, Bounds};
 fn call_at(calls: &[Call], j: usize) -> Call
     ensures { result ≡ slice_index_or calls.now j idle }
 {
-    if j < calls.len() {
-        calls[j]
-    } else {
-        Call {
-            asked: Asked::new(0, 0, 0, 0, 0),
-            refuse: 0,
-            room: 0,
-        }
-    }
+    calls.get(j).copied().unwrap_or_default()
 }
 
 // A call begins where askings are allowed, and ends where it is looked whether a block was refused.
@@ -69,6 +61,7 @@ impl<'c, 'a, B: Blocks + Bounds> Planned<'c, 'a, B> {
         ensures call { self.new.call ≡ following (length self.old.asks.now) self.old.call }
         ensures ration { self.new.ration ≡ self.old.ration }
     {
+        // by an index: what was written through a slice's `get_mut` is lost to the proof
         if self.call < self.asks.len() {
             self.asks[self.call] = self.allowed.saturating_sub(self.ration.asks_left());
             self.call += 1;

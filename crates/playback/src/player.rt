@@ -2,7 +2,7 @@
 ghost use Rattle.std.specs.Prelude.{◌-◌, ◌≤◌, length};
 ghost use Rattle.playback.specs.Played.{AllHonest, Answered, asks_in, played, replies_in};
 
-use crate::call::{Call, asks_same};
+use crate::call::Call;
 use crate::note::{Note, Reply};
 use things::{Answer, Op, Users};
 
@@ -24,7 +24,7 @@ impl<'c, 'a> Player<'c, 'a> {
     {
         let most = self.count.min(calls.len()).min(replies.len());
         let mut n = 0;
-        while n < most && asks_same(self.notes[n].asked, calls[n].asked) {
+        while n < most && self.notes[n].asked.asks_as(calls[n].asked) {
             replies[n] = self.notes[n].reply;
             n += 1;
         }
@@ -40,7 +40,7 @@ impl<'c, 'a> Users for Player<'c, 'a> {
     // Nothing is asked when there is no more room for notes.
     fn next(&mut self) -> Option<Op> {
         if self.count < self.calls.len() && self.count < self.notes.len() {
-            self.calls[self.count].asked.op()
+            Op::try_from(self.calls[self.count].asked).ok()
         } else {
             None
         }

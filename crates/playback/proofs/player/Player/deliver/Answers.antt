@@ -8,10 +8,10 @@ loop-n-preserved c =
     let ns = c.args.self.now.notes.now in
     let n = c.loop-n.n in
     let h : n < length c.loop-n.replies = omega arith in
-    (omega arith, same_more (asks c.args.calls.now) c.loop-n.replies (asks_in ns) (replies_in ns) n h (sym (c.if-asks_same.ensures tt)) c.loop-n.invariant.1)
+    (omega arith, same_more (asks c.args.calls.now) c.loop-n.replies (asks_in ns) (replies_in ns) n h (sym (c.if-asks_as.ensures tt)) c.loop-n.invariant.1)
 
-pub returns-else-asks_same : goal.returns-else-asks_same
-returns-else-asks_same c = delivered c.args.calls.now c.loop-n.replies c.args.self.now.notes.now c.args.self.now.count c.loop-n.n (omega arith) (omega arith) (omega arith) c.args.self.now.honest c.loop-n.invariant.1
+pub returns-else-asks_as : goal.returns-else-asks_as
+returns-else-asks_as c = delivered c.args.calls.now c.loop-n.replies c.args.self.now.notes.now c.args.self.now.count c.loop-n.n (omega arith) (omega arith) (omega arith) c.args.self.now.honest c.loop-n.invariant.1
 
 pub returns-after-loop-n : goal.returns-after-loop-n
 returns-after-loop-n c = delivered c.args.calls.now c.loop-n.replies c.args.self.now.notes.now c.args.self.now.count c.loop-n.n (omega arith) (omega arith) (omega arith) c.args.self.now.honest c.loop-n.invariant.1

@@ -1,2 +1,2 @@
 mod Calls
-mod Notes
+mod Replies

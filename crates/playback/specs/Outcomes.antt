@@ -4,7 +4,9 @@ use Rattle.std.specs.Prelude.{◌≡◌, ℕ, ◌<◌, ◌≤◌, List, length, 
 use Rattle.playback.specs.declared.call.Call.{Call}
 use Rattle.playback.specs.declared.note.Note.{Note}
 use Rattle.playback.specs.declared.note.Reply.{Reply}
-use Rattle.playback.specs.declared.play.Outcome.{Outcome}
+use Rattle.playback.specs.declared.outcome.Outcome.{Outcome}
+use Rattle.playback.specs.declared.outcome.Refused.{Refused}
+use Rattle.playback.specs.declared.outcome.Refused.TheVariants.{UnknownCall, TooShort}
 use Rattle.playback.specs.Played.{idle, Answered}
 
 abbrev pub code_at : List Call → ℕ → ℕ
@@ -27,6 +29,11 @@ pub record Untouched (ds : List Note) (rs : List Reply) (ks : List ℕ) (ds' : L
   pub draft : ds' ≡ ds
   pub replies : rs' ≡ rs
   pub asks : ks' ≡ ks
+
+-- the number by which it is refused
+abbrev pub number_of : Refused → ℕ
+number_of UnknownCall = 1
+number_of TooShort = 2
 
 -- played; or refused, by 1 for a code of no call and by 2 for want of room, and then nothing was written
 pub record Ended (cs : List Call) (ds : List Note) (rs : List Reply) (ks : List ℕ) (r : Outcome) (ds' : List Note) (rs' : List Reply) (ks' : List ℕ) : Type 0 where

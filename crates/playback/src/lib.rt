@@ -1,12 +1,14 @@
 // Scripts of calls from C or Rust, played on lent memory.
 #![tactic(auto)]
 
-ghost use Rattle.std.specs.Prelude.{◌≡◌};
-ghost use Rattle.playback.specs.Outcomes.{Ended, FirstUnknown};
+ghost use Rattle.std.specs.Prelude.{◌≡◌, OnOk, length};
+ghost use Rattle.playback.specs.Outcomes.{Ended, FirstUnknown, Room};
 
 mod call;
 mod code;
 mod note;
+mod notes;
+mod outcome;
 mod planned;
 mod play;
 mod player;
@@ -15,8 +17,9 @@ pub use call::{Asked, Call, UnknownCode};
 use code::CODES;
 use lent::Lent;
 pub use note::{Note, Reply};
+pub use outcome::Outcome;
+use outcome::Refused;
 pub use planned::Planned;
-pub use play::Outcome;
 pub use player::Player;
 use things::Users;
 
@@ -43,23 +46,26 @@ pub extern "C" fn playback_play(
 ) -> Outcome
     ensures { Ended calls.now draft.old replies.old asks.old result draft.new replies.new asks.new }
 {
-    let n = calls.len();
-    if playback_first_unknown(calls) < n {
-        return refused(1);
+    match check(calls, draft, replies, asks) {
+        Ok(()) => Outcome::from(play::play(Lent::over(words, free), calls, draft, replies, asks)),
+        Err(reason) => Outcome::from(reason),
     }
-    if draft.len() < n || replies.len() < n || asks.len() < n {
-        return refused(2);
-    }
-    play::play(Lent::over(words, free), calls, draft, replies, asks)
 }
 
-// Nothing was done.
-fn refused(reason: u32) -> Outcome
-    ensures { result ≡ record { refused = reason; over = 0; told = 0 } }
+// Each code is of a call, and there is room for what is noted of each.
+fn check(calls: &[Call], draft: &[Note], replies: &[Reply], asks: &[u64]) -> Result<(), Refused>
+    ensures known { OnOk result (FirstUnknown calls.now (length calls.now)) }
+    ensures room { OnOk result (Room calls.now draft.now replies.now asks.now) }
+    ensures unknown { result ≡ Err Refused.UnknownCall → FirstUnknown calls.now (length calls.now) → ⊥ }
+    ensures code { result ≡ Err Refused.TooShort → FirstUnknown calls.now (length calls.now) }
+    ensures short { result ≡ Err Refused.TooShort → Room calls.now draft.now replies.now asks.now → ⊥ }
 {
-    Outcome {
-        refused: reason,
-        over: 0,
-        told: 0,
+    let n = calls.len();
+    if playback_first_unknown(calls) < n {
+        return Err(Refused::UnknownCall);
     }
+    if draft.len() < n || replies.len() < n || asks.len() < n {
+        return Err(Refused::TooShort);
+    }
+    Ok(())
 }

@@ -1,5 +1,6 @@
 -- A reply that comes later changes nothing before it.
-use Rattle.std.proofs.Common.{◌≡◌, ℕ, zero, suc, ◌+◌, ◌<◌, ◌≤◌, Bool, List, length, set, refl, ap, ◌∙◌, inl, inr, add-one, arith, length-set, get_or-set_other, get_or-set_same}
+use Rattle.std.proofs.Common.{◌≡◌, ℕ, zero, suc, ◌+◌, ◌<◌, ◌≤◌, Bool, List, length, set, take, refl, ap, ◌∙◌, inl, inr, add-one, arith, length-take, get_or, get_or-set_other, get_or-set_same}
+use Rattle.std.proofs.lemmas.List.{get_or-take, length-take-le}
 use Rattle.std.proofs.lemmas.Bool.Decides.{eqb_tells}
 use Rattle.things.specs.declared.Op.{Op}
 use Rattle.things.specs.declared.Answer.{Answer}
@@ -75,18 +76,13 @@ noted_honest n ns x h a r =
     let e = same_played o w (asks_in ns) (replies_in ns) n (same_noted n ns x) in
     honest_more o w n (same_honest o w (asks_in ns) (replies_in ns) n (same_noted n ns x) a) (moved (op_of x.asked) (o n) x.reply (w n) (played (asks_in ns) (replies_in ns) n) (played o w n) (nth_asked n ns x h) (nth_reply n ns x h) e r)
 
-pub still_within : (n : ℕ) (ns : List Note) (x : Note) → n < length ns → n + 1 ≤ length (set ns n x)
-still_within n ns x h = rw (length-set ns n x) (omega arith)
-
--- one reply more goes out
-pub same_more : (o : ℕ → Op) (rs : List Reply) (o' : ℕ → Op) (r' : ℕ → Reply) (n : ℕ) → n < length rs → o n ≡ o' n → Same o (replies rs) o' r' n → Same o (replies (set rs n (r' n))) o' r' (n + 1)
-same_more o rs o' r' n h e s j k =
-    elim (eqb_tells j n) [
-      | inl w ↦ rw w.1 (e, get_or-set_same rs n (r' n) silent h)
-      | inr w ↦ let p = s j (omega (arith, w.1)) in (p.0, get_or-set_other rs n j (r' n) silent w.1 ∙ p.1)
-    ]
-
-pub delivered : (cs : List Call) (rs : List Reply) (ns : List Note) (count n : ℕ) → n ≤ count → n ≤ length cs → n ≤ length rs → AllHonest (asks_in ns) (replies_in ns) count
-    → Same (asks cs) (replies rs) (asks_in ns) (replies_in ns) n → Answered n cs rs
-delivered cs rs ns count n h l m a s =
-    record { calls = l; room = m; honest = same_honest (asks cs) (replies rs) (asks_in ns) (replies_in ns) n s (λ j k. a j (omega arith)) }
+-- the replies of the first n notes went out, each to the call that was noted
+pub delivered : (cs : List Call) (rs : List Reply) (ns : List Note) (count : ℕ) (ws : List Note) (n : ℕ) → ws ≡ take count ns → n ≤ length cs → n ≤ length rs → n ≤ length ws → AllHonest (asks_in ns) (replies_in ns) count
+    → ((j : ℕ) → j < n → asks cs j ≡ asks_in ws j) → ((j : ℕ) → j < length (take n ws) → replies rs j ≡ replies_in (take n ws) j) → Answered n cs rs
+delivered cs rs ns count ws n e l m h a p q =
+    let many : length ws ≤ count = rw e (omega (arith, length-take count ns)) in
+    let same : Same (asks cs) (replies rs) (asks_in ns) (replies_in ns) n = λ j k.
+    let at : get_or ws j blank ≡ get_or ns j blank = rw e (get_or-take count ns j blank (omega (arith, many, h))) in
+    let r = q j (rw (length-take-le n ws h) k) in
+    (p j k ∙ ap (λ (y : Note). op_of y.asked) at, r ∙ ap (λ (y : Note). y.reply) (get_or-take n ws j blank k ∙ at)) in
+    record { calls = l; room = m; honest = same_honest (asks cs) (replies rs) (asks_in ns) (replies_in ns) n same (λ j k. a j (omega (arith, many, h))) }

@@ -10,7 +10,7 @@ use Rattle.playback.specs.declared.call.Call.{Call}
 use Rattle.playback.specs.declared.note.Note.{Note}
 use Rattle.playback.specs.declared.note.Reply.{Reply}
 use Rattle.playback.specs.Numbers.{op_of, answer_of}
-use Rattle.playback.specs.Played.{silent, blank, asks, replies, asks_in, replies_in, played, Tells, Honest, AllHonest, Answered}
+use Rattle.playback.specs.Played.{blank, asks, replies, asks_in, replies_in, played, Tells, Honest, AllHonest, Answered}
 
 -- the first n calls and replies are the same
 abbrev pub Same : (ℕ → Op) → (ℕ → Reply) → (ℕ → Op) → (ℕ → Reply) → ℕ → Type 0

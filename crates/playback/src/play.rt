@@ -11,6 +11,8 @@ use crate::player::Player;
 use things::{Blocks, Bounds, Users, times};
 
 // Over blocks of which none is held. Notes are made in `draft`, and how often each call asked is noted in `asks`.
+// The slices stand apart, as they are lent: the first goes to the player, the last to the ground, and the replies are written after both.
+#[tactic(auto, unfolding(crate::specs::Played::played))]
 pub(crate) fn play<B: Blocks + Bounds + Drop>(
     blocks: B,
     calls: &[Call],

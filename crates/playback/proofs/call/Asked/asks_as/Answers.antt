@@ -1,5 +1,5 @@
 use Rattle.std.proofs.Common.{◌≡◌, rules, ap, sym, ◌∙◌}
-use Rattle.playback.specs.Numbers.{op_of, op_in}
+use Rattle.playback.specs.Numbers.{op_of}
 use Rattle.playback.proofs.Calls.{op_known}
 use Rattle.playback.proofs.call.Asked.asks_as.Goals as goal
 

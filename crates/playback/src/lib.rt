@@ -9,6 +9,7 @@ mod code;
 mod note;
 mod notes;
 mod outcome;
+mod plan;
 mod planned;
 mod play;
 mod player;

@@ -1,29 +1,19 @@
 // A ground with a plan: which blocks each call is refused, and how often it asked.
-ghost use Rattle.std.specs.Prelude.{◌≡◌, ◌-◌, length, slice_index_or};
+ghost use Rattle.std.specs.Prelude.{◌≡◌, ◌-◌, length};
 ghost use Rattle.things.specs.Ground.{AtStart};
 ghost use Rattle.ration.specs.Refusing.{begun, ground_of};
 ghost use Rattle.playback.specs.Planned.{following, planned, spent};
-ghost use Rattle.playback.specs.Played.{idle};
 
 use crate::call::Call;
+use crate::plan::Plan;
 use ration::Ration;
 use things::{Blocks, Bounds};
-
-// The call at a place; behind the last none refuses anything.
-fn call_at(calls: &[Call], j: usize) -> Call
-    ensures { result ≡ slice_index_or calls.now j idle }
-{
-    calls.get(j).copied().unwrap_or_default()
-}
 
 // A call begins where askings are allowed, and ends where it is looked whether a block was refused.
 #[derive(Drop)]
 pub struct Planned<'c, 'a, B> {
     ration: Ration<B>,
-    calls: &'c [Call],
-    asks: &'a mut [u64],
-    // how many calls are over
-    call: usize,
+    plan: Plan<'c, 'a>,
     allowed: u64,
 }
 
@@ -33,9 +23,11 @@ impl<'c, 'a, B: Blocks> Planned<'c, 'a, B> {
     {
         Planned {
             ration: Ration::over(blocks),
-            calls,
-            asks,
-            call: 0,
+            plan: Plan {
+                calls,
+                asks,
+                call: 0,
+            },
             allowed: 0,
         }
     }
@@ -44,11 +36,11 @@ impl<'c, 'a, B: Blocks> Planned<'c, 'a, B> {
 impl<'c, 'a, B: Blocks + Bounds> Planned<'c, 'a, B> {
     // A call begins: what its plan refuses is to be refused.
     fn begin(&mut self, asks: u64, top: u64)
-        ensures ration { self.new.ration ≡ begun asks top (planned self.old.calls.now self.old.call self.old.ration) }
+        ensures ration { self.new.ration ≡ begun asks top (planned self.old.plan.calls.now self.old.plan.call self.old.ration) }
         ensures allowed { self.new.allowed ≡ asks }
-        ensures call { self.new.call ≡ self.old.call }
+        ensures call { self.new.plan.call ≡ self.old.plan.call }
     {
-        let c = call_at(self.calls, self.call);
+        let c = self.plan.current();
         self.ration.refuse(c.refuse);
         self.ration.set_room(c.room);
         self.allowed = asks;
@@ -57,15 +49,12 @@ impl<'c, 'a, B: Blocks + Bounds> Planned<'c, 'a, B> {
 
     // A call is over: how often it has asked is noted.
     fn end(&mut self)
-        ensures asks { self.new.asks.now ≡ spent self.old.asks.now self.old.call (self.old.allowed - self.old.ration.left) }
-        ensures call { self.new.call ≡ following (length self.old.asks.now) self.old.call }
+        ensures asks { self.new.plan.asks.now ≡ spent self.old.plan.asks.now self.old.plan.call (self.old.allowed - self.old.ration.left) }
+        ensures call { self.new.plan.call ≡ following (length self.old.plan.asks.now) self.old.plan.call }
         ensures ration { self.new.ration ≡ self.old.ration }
     {
-        // by an index: what was written through a slice's `get_mut` is lost to the proof
-        if self.call < self.asks.len() {
-            self.asks[self.call] = self.allowed.saturating_sub(self.ration.asks_left());
-            self.call += 1;
-        }
+        let left = self.ration.asks_left();
+        self.plan.end(self.allowed.saturating_sub(left));
     }
 }
 

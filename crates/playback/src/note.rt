@@ -23,19 +23,28 @@ impl From<Answer> for Reply {
     ghost from_gives = { λ a reply. answer_of reply ≡ a };
 
     fn from(a: Answer) -> Reply {
-        let (tag, reason, first, second) = match a {
-            Answer::Done => (0, 0, 0, 0),
-            Answer::Word(x) => (1, 0, x, 0),
-            Answer::Pair(k, x) => (2, 0, k, x),
-            Answer::No(k) => (3, k, 0, 0),
-            Answer::Full => (4, 0, 0, 0),
-        };
-        Reply {
-            tag,
-            reason,
-            a: first,
-            b: second,
-            ..Reply::default()
+        match a {
+            Answer::Done => Reply::default(),
+            Answer::Word(x) => Reply {
+                tag: 1,
+                a: x,
+                ..Reply::default()
+            },
+            Answer::Pair(k, x) => Reply {
+                tag: 2,
+                a: k,
+                b: x,
+                ..Reply::default()
+            },
+            Answer::No(k) => Reply {
+                tag: 3,
+                reason: k,
+                ..Reply::default()
+            },
+            Answer::Full => Reply {
+                tag: 4,
+                ..Reply::default()
+            },
         }
     }
 }

@@ -46,6 +46,7 @@ fn copy_out(notes: &[Note], out: &mut [Reply])
     requires { length notes.now ≤ length out.old }
     ensures { (j : ℕ) → j < length notes.now → replies out.new j ≡ replies_in notes.now j }
 {
+    // by an index: what a zip with `iter_mut` writes is lost to the proof
     for (j, note) in notes.iter().enumerate() {
         out[j] = note.reply;
     }

@@ -65,7 +65,7 @@ impl<'c, 'a, B: Blocks + Bounds> Planned<'c, 'a, B> {
 
     // A call is over: how often it has asked is noted.
     fn end(&mut self)
-        ensures asks { self.new.asks.now ≡ spent self.old.asks.now self.old.call (self.old.allowed - self.old.ration.left) }
+        ensures asks { self.new.asks.now ≡ spent self.old.asks.now self.old.call (self.old.allowed - self.old.ration.meter.left) }
         ensures call { self.new.call ≡ following (length self.old.asks.now) self.old.call }
         ensures ration { self.new.ration ≡ self.old.ration }
     {

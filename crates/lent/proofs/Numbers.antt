@@ -3,6 +3,8 @@ use Rattle.std.proofs.Common.{◌≡◌, ℕ, zero, suc, ◌*◌, ◌<◌, ◌�
 use Rattle.std.specs.List.{All, AllByRecursion, IsDistinct}
 use Rattle.std.specs.Simd.{first_chunks}
 use Rattle.std.proofs.lemmas.Bool.Decides.{nat_tests, eqb_tells}
+use Rattle.std.proofs.lemmas.List.Elements.{All-from_recursion}
+use Rattle.std.proofs.lemmas.List.Folds.{list_any_none}
 use Rattle.std.proofs.lemmas.Map.Keys.{IsDistinct-head, IsDistinct-tail, IsDistinct-cons}
 use Rattle.std.proofs.lemmas.Map.Steps.{length-le_from_distinct_below}
 use Rattle.lent.specs.Free.{AreBelow, down_from, is_free}
@@ -14,10 +16,6 @@ none_alike b (x ∷ xs) h = elim (eqb_tells b x) [
   | inl e ↦ grind (arith, e)
   | inr e ↦ (e.0, none_alike b xs (grind (arith, e)))
 ]
-
-not_among : (b : ℕ) (xs : List ℕ) → AllByRecursion (λ y. nat_eq b y ≡ false) xs → is_free xs b ≡ false
-not_among b [] h = refl
-not_among b (x ∷ xs) (e, h) = rw (e, not_among b xs h) refl
 
 module _ (n b : ℕ) (xs : List ℕ) where
   pub pushed_below : b < n → AreBelow n xs → AreBelow n (b ∷ xs)
@@ -36,7 +34,7 @@ module _ (n b : ℕ) (xs : List ℕ) where
   popped_apart = IsDistinct-tail nat_eq b xs
 
   pub popped_gone : IsDistinct nat_eq (b ∷ xs) → is_free xs b ≡ false
-  popped_gone apart = not_among b xs (IsDistinct-head nat_eq b xs apart)
+  popped_gone apart = list_any_none (nat_eq b) xs (All-from_recursion (λ y. nat_eq b y ≡ false) xs (IsDistinct-head nat_eq b xs apart))
 
 -- there are at most as many of them as there are numbers
 pub few : (n : ℕ) (xs : List ℕ) → AreBelow n xs → IsDistinct nat_eq xs → length xs ≤ n

@@ -3,7 +3,7 @@ use Rattle.std.specs.List.{IsDistinct}
 use Rattle.lent.specs.Free.{AreBelow, on_stack}
 use Rattle.lent.proofs.Grounds.{held_below, held_not_free}
 use Rattle.lent.proofs.Numbers.{room_left, pushed_below, pushed_apart}
-use Rattle.lent.proofs.lent.LentBlocks.release.Goals as goal
+use Rattle.lent.proofs.lent.ground.LentBlocks.release.Goals as goal
 
 pub push-requires : goal.push-requires
 push-requires c =

@@ -14,7 +14,7 @@ use things::Blocks;
 #[derive(Drop)]
 pub struct Ration<B> {
     inner: B,
-    // The ration's own: the ground below is allowed one asking each time that it is asked.
+    // The ration's own: the ground below is allowed one asking each time that it is asked, so nothing has to tie its count to this one.
     meter: Meter,
     // How many gettings of the next call go through before one is refused, and how many more of this call.
     pending: Option<u64>,

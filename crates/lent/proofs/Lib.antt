@@ -1,3 +1,2 @@
-mod Counts
-mod Stacks
+mod Numbers
 mod Grounds

@@ -1,16 +1,22 @@
--- The numbers that are free, on a stack: the first n of xs.
+-- The numbers of the blocks that are free, on a stack.
 -- Assumes nothing.
-use Rattle.std.specs.Prelude.{◌≡◌, ℕ, zero, suc, ◌<◌, Bool, false, ◌||◌, List, ◌==◌, slice_index}
+use Rattle.std.specs.Prelude.{◌≡◌, ℕ, zero, suc, ◌<◌, Bool, true, List, [], ◌∷◌, nat_eq, take, reverse}
+use Rattle.std.specs.List.{list_any}
+use Rattle.lent.specs.declared.stack.Stack.{Stack}
 
--- each is the number of a block
-abbrev pub Low : List ℕ → ℕ → ℕ → Type 0
-Low xs n size = (j : ℕ) → j < n → slice_index xs j < size
+-- the numbers on a stack, the top one first
+abbrev pub on_stack : Stack → List ℕ
+on_stack s = reverse (take s.count s.numbers.now)
 
--- no two are one
-abbrev pub Apart : List ℕ → ℕ → Type 0
-Apart xs n = (j k : ℕ) → ((j < k) × (k < n) × (slice_index xs j ≡ slice_index xs k)) → ⊥
+-- the numbers below n, the last one first
+abbrev pub down_from : ℕ → List ℕ
+down_from zero = []
+down_from (suc n) = n ∷ down_from n
 
 -- whether b is one of them
-unfoldable pub among : List ℕ → ℕ → ℕ → Bool
-among xs zero b = false
-among xs (suc n) b = slice_index xs n == b || among xs n b
+abbrev pub is_free : List ℕ → ℕ → Bool
+is_free free b = list_any (nat_eq b) free
+
+-- each is below n
+abbrev pub AreBelow : ℕ → List ℕ → Type 0
+AreBelow n free = (b : ℕ) → is_free free b ≡ true → b < n

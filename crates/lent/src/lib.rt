@@ -2,10 +2,6 @@
 #![tactic(auto)]
 
 mod lent;
-mod meter;
-mod sizes;
 mod stack;
-mod words;
 
-pub use lent::Lent;
-pub use sizes::{BLOCK_WORDS, MOST_BLOCKS};
+pub use lent::{BLOCK_WORDS, Lent, MOST_BLOCKS};

@@ -49,7 +49,7 @@ impl<'c, 'a, B: Blocks + Bounds> Planned<'c, 'a, B> {
 
     // A call is over: how often it has asked is noted.
     fn end(&mut self)
-        ensures asks { self.new.plan.asks.now ≡ spent self.old.plan.asks.now self.old.plan.call (self.old.allowed - self.old.ration.left) }
+        ensures asks { self.new.plan.asks.now ≡ spent self.old.plan.asks.now self.old.plan.call (self.old.allowed - self.old.ration.meter.left) }
         ensures call { self.new.plan.call ≡ following (length self.old.plan.asks.now) self.old.plan.call }
         ensures ration { self.new.ration ≡ self.old.ration }
     {

@@ -5,39 +5,36 @@ ghost use Rattle.std.specs.Prelude.{◌≡◌};
 ghost use Rattle.things.specs.Ground.{AtStart};
 ghost use Rattle.ration.specs.Refusing.{ground_of, fresh, refusing, limited};
 
-mod below;
 mod ground;
 mod refusal;
 
+use meter::Meter;
 use things::Blocks;
 
-// `left`, `top` and `failed` are the ration's own: the ground below is allowed one asking each time that it is asked.
 #[derive(Drop)]
 pub struct Ration<B> {
     inner: B,
-    left: u64,
-    top: u64,
-    failed: bool,
-    // Which getting of the next call is refused, and how many gettings ahead in this one; 0: none.
-    pending: u64,
-    due: u64,
-    // While so many blocks are held, every getting is refused; 0: no limit.
-    limit: u64,
+    // The ration's own: the ground below is allowed one asking each time that it is asked, so nothing has to tie its count to this one.
+    meter: Meter,
+    // How many gettings of the next call go through before one is refused, and how many more of this call.
+    pending: Option<u64>,
+    due: Option<u64>,
+    // While so many blocks are held, every getting is refused.
+    limit: Option<u64>,
 }
 
 impl<B: Blocks> Ration<B> {
     // Over a ground, refusing nothing.
     pub fn over(inner: B) -> Ration<B>
-        ensures { (result ≡ fresh inner) × ((AtStart (B.Blocks.as_ground inner) → AtStart (ground_of B.Blocks.as_ground result))) }
+        ensures fresh { result ≡ fresh inner }
+        ensures starts { AtStart (B.Blocks.as_ground inner) → AtStart (ground_of B.Blocks.as_ground result) }
     {
         Ration {
             inner,
-            left: 0,
-            top: 0,
-            failed: false,
-            pending: 0,
-            due: 0,
-            limit: 0,
+            meter: Meter::new(),
+            pending: None,
+            due: None,
+            limit: None,
         }
     }
 }
@@ -47,21 +44,21 @@ impl<B> Ration<B> {
     pub fn refuse(&mut self, k: u64)
         ensures { self.new ≡ refusing k self.old }
     {
-        self.pending = k;
+        self.pending = k.checked_sub(1);
     }
 
     // While n blocks or more are held, every getting is refused; 0 ends that.
     pub fn set_room(&mut self, n: u64)
         ensures { self.new ≡ limited n self.old }
     {
-        self.limit = n;
+        self.limit = (n > 0).then_some(n);
     }
 
     // How often it may still be asked.
     pub fn asks_left(&self) -> u64
-        ensures { result ≡ self.now.left }
+        ensures { result ≡ self.now.meter.left }
     {
-        self.left
+        self.meter.left()
     }
 
     // The ground below, as it stands.
@@ -70,9 +67,7 @@ impl<B> Ration<B> {
     {
         let Ration {
             inner,
-            left: _,
-            top: _,
-            failed: _,
+            meter: _,
             pending: _,
             due: _,
             limit: _,

@@ -1,23 +1,22 @@
-use Rattle.std.proofs.Common.{arith}
-use Rattle.lent.proofs.Grounds.{obtained, refused}
+use Rattle.lent.specs.Free.{on_stack}
+use Rattle.lent.proofs.Grounds.{still_below, still_apart, popped}
+use Rattle.std.proofs.Common.{length}
 use Rattle.lent.proofs.lent.Lent.acquire.Goals as goal
 
-pub returns-in-Some : goal.returns-in-Some
-returns-in-Some c =
+pub invariant_of-self-clause-low : goal.invariant_of-self-clause-low
+invariant_of-self-clause-low c =
     let h = c.args.self.now in
-    let p = c.in-Some.ensures in
-    record {
-      gets = obtained h.words.flat.now h.free.numbers.now h.free.count h.size h.meter h.low h.apart h.few h.fits h.within
-          p.top p.numbers p.count c.count.ensures;
-      full = λ e. grind arith;
-    }
+    let p = c.pop-got in
+    still_below (length h.blocks.now) (on_stack h.free) (on_stack p.new.self) p.result p.ensures.top h.low
 
-pub returns-in-None : goal.returns-in-None
-returns-in-None c =
+pub invariant_of-self-clause-apart : goal.invariant_of-self-clause-apart
+invariant_of-self-clause-apart c =
     let h = c.args.self.now in
-    let p = c.in-None.ensures in
-    record {
-      gets = refused h.words.flat.now h.free.numbers.now h.free.count h.size h.meter
-          p.top p.numbers p.count c.count.ensures c.refuse.ensures;
-      full = λ e. omega (arith, p.top);
-    }
+    let p = c.pop-got in
+    still_apart (length h.blocks.now) (on_stack h.free) (on_stack p.new.self) p.result p.ensures.top h.apart
+
+pub returns-clause-gets : goal.returns-clause-gets
+returns-clause-gets c =
+    let h = c.args.self.now in
+    let p = c.pop-got in
+    popped h.blocks.now h.whole h.few (on_stack h.free) (on_stack p.new.self) h.meter c.count_obtain.new.self p.result p.ensures.top h.low h.apart c.count_obtain.ensures

@@ -31,8 +31,8 @@ use Rattle.heap.specs.declared.Heap.TheView.{view}
 use Rattle.heap.specs.contracts.Heap as T
 use Rattle.heap.specs.contracts.Heap.TheInside as I
 use Rattle.heap.proofs.Heap.TheInside.TheLaws as I'
-use Rattle.heap.specs.contracts.all_free as callee
-use Rattle.heap.proofs.all_free.Met.{met}
+use Rattle.heap.specs.contracts.free_list.all_free as callee
+use Rattle.heap.proofs.free_list.all_free.Met.{met}
 use Rattle.heap.specs.contracts.Heap.empty as f
 use Rattle.heap.proofs.Lits.{big_lit}
 use Rattle.heap.proofs.BlockBox.{Handle, E}
@@ -58,7 +58,7 @@ empty_spec 𝓤 𝓛 𝓜 𝓡 wired =
     let k = triple_of 𝓛 callee.signature (callee.spec 𝓛 𝓜.mem 𝓡.returns) in
     let y : k.Ghost = ((tt, tt, tt, tt, tt), tt) in
     nothing ! $ nothing ! $ nothing ! $ join ! $ join ! $ use1 𝓛 (raw (k.pre y)) (id⊢ 𝓤 _) $
-    calls_at ! (framed 𝓤 𝓛.H 𝓜 𝓣) k (met 𝓤 𝓛 𝓜 𝓡 (code.calls-heap::all_free 𝓡.env wired)) y (no_more !) (λ v.
+    calls_at ! (framed 𝓤 𝓛.H 𝓜 𝓣) k (met 𝓤 𝓛 𝓜 𝓡 (code.calls-heap::free_list::all_free 𝓡.env wired)) y (no_more !) (λ v.
     use1 𝓛 (later (some (λ (r : List ℕ). (‵ ftrue ⊛ ‵ ((Array u32 block_count).own_val r (v ∷ []))) ⊛ some (λ (ws : Unit {0}). ‵ ftrue ⊛ raw (fact 𝓤 (Every r)))))) (id⊢ 𝓤 _) $
     await ! tt $ pick ! (λ free. split ! $ move ! (1 ∷ []) $ pick ! (λ ws. split ! $ drop ! $ heard ! (Every free) (λ every. split ! $ drop ! $
     -- [the free list; the handle]

@@ -2,7 +2,7 @@ use Rattle.std.proofs.Common.{◌≡◌, length, ap}
 use Rattle.things.specs.Ground.{none as refuses}
 use Rattle.heap.specs.Sizes.{block_words}
 use Rattle.heap.proofs.Turns.{obtained}
-use Rattle.heap.proofs.HeapBlocks.obtain.Goals as goal
+use Rattle.heap.proofs.ground.HeapBlocks.obtain.Goals as goal
 
 pub returns-then-self-eq0 : goal.returns-then-self-eq0
 returns-then-self-eq0 c = rw (← c.self.view_is) refuses

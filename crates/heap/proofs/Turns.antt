@@ -3,8 +3,7 @@ use Rattle.std.proofs.Common.{◌≡◌, ℕ, suc, ◌+◌, ◌-◌, ◌<◌, �
 use Rattle.things.specs.Ground.{Obtains, got as gets, released, written}
 use Rattle.heap.specs.Sizes.{block_words, block_count}
 use Rattle.heap.specs.Owned.{held, ground_of}
-use Rattle.heap.specs.FreeList.{Valid, Unheld, Distinct}
-use Rattle.heap.specs.declared.Heap.TheInside.{Inside}
+use Rattle.heap.specs.Kept.{Kept}
 use Rattle.heap.proofs.Grounds.{ground_is, block_set, lengths_same}
 use Rattle.heap.proofs.HeldCount.{held_more, held_less, held_same, below_length}
 use Rattle.heap.proofs.FreeList.{push_valid, push_unheld, push_distinct, pop_valid, pop_unheld, pop_distinct}
@@ -16,17 +15,6 @@ no_words (w ∷ ws) e = let z : suc (length ws) ≤ 0 = omega arith in absurd (n
 filled : (wss : List (List ℕ)) (b : ℕ) (ws : List ℕ) → b < length wss → length (get_or wss b []) ≡ 0 → length ws ≡ block_words → held (set wss b ws) ≡ held wss + 1
 filled wss b [] l e f = let z : 1 ≤ 0 = omega arith in absurd (not-suc-le-zero z)
 filled wss b (w ∷ ws) l e f = held_more wss b w ws l e
-
--- the facts that a heap keeps of its blocks and its free list
-pub record Kept (wss : List (List ℕ)) (free : List ℕ) (n : ℕ) : Type 0 where
-  pub sized : length wss ≡ block_count
-  pub counts : held wss + n ≡ block_count
-  pub valid : Valid free n
-  pub unheld : Unheld free n wss
-  pub distinct : Distinct free n
-
-abbrev pub kept_of : (h : Inside) → Kept h.words h.free h.spare
-kept_of h = record { sized = h.sized; counts = h.counts; valid = h.valid; unheld = h.unheld; distinct = h.distinct }
 
 module _ (wss : List (List ℕ)) (free : List ℕ) (n : ℕ) (kept : Kept wss free n) where
   open kept use {sized, counts, valid, unheld, distinct}

@@ -1,4 +1,5 @@
 pub mod Owned
 pub mod Sizes
 pub mod FreeList
+pub mod Kept
 pub mod State

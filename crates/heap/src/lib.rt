@@ -1,11 +1,10 @@
 // A heap of 1,024 blocks of 64 words: memory of C's allocator, asked for block by block and owned by one value.
 #![tactic(auto)]
 
-ghost use Rattle.std.specs.Prelude.{◌≡◌, ℕ, ◌+◌, List, length};
+ghost use Rattle.std.specs.Prelude.{◌≡◌, ℕ, List};
 ghost use Rattle.things.specs.Ground.{AtStart};
 ghost use Rattle.heap.specs.Owned.{owned, held, ground_of};
-ghost use Rattle.heap.specs.Sizes.{block_words, block_count};
-ghost use Rattle.heap.specs.FreeList.{Valid, Unheld, Distinct};
+ghost use Rattle.heap.specs.Kept.{Kept};
 ghost use Rattle.heap.specs.State.{State};
 
 mod blocks;
@@ -35,17 +34,14 @@ pub struct Heap {
     alloc: Global,
     // what is in each block, and nothing for one that is not held
     ghost words: { List (List ℕ) },
-    ghost sized: { length words ≡ block_count },
-    ghost counts: { held words + spare ≡ block_count },
-    ghost valid: { Valid free spare },
-    ghost unheld: { Unheld free spare words },
-    ghost distinct: { Distinct free spare },
 }
 
 impl Model for Heap {
     ghost Value = { State };
 
     ghost view = { λ h. record { words = h.words; left = h.left; top = h.top; failed = h.failed } };
+
+    ghost invariant = { λ h. Kept h.words h.free h.spare };
 
     ghost also_owns = { λ h. owned h.at h.words };
 }

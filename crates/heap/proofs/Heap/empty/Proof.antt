@@ -66,11 +66,11 @@ empty_spec 𝓤 𝓛 𝓜 𝓡 wired =
     lands_as ! refl refl ((Array-Lawful 𝓛 u32 (uint_Lawful 𝓛 w32) block_count).typed free (v ∷ []) is_free).0 $
     use0 𝓛 (‵ ((Array RawPtr block_count).own_val nulls (nulls_val ∷ []))) (nulls_own 𝓛) $ peeks ! (Array RawPtr block_count) (Is (Array RawPtr block_count)) (shows 𝓛 (Array RawPtr block_count)) nulls (nulls_val ∷ []) (λ is_null. drop ! $
     sets ! (is ! (rep ! block_count (lit ! tt)) nulls_is) refl ((Array-Lawful 𝓛 RawPtr (rawptr_Lawful 𝓛) block_count).typed nulls (nulls_val ∷ []) is_null).0 $
-    use2 𝓛 (‵ ((I.the_row).own_val (fresh free alloc every) (word v w ∷ []))) (fresh_own 𝓛 free alloc every v w) $ peeks ! I.the_row (Is I.the_row) (shows 𝓛 I.the_row) (fresh free alloc every) (word v w ∷ []) (λ is_heap.
+    use2 𝓛 (‵ ((I.the_row).own_val (fresh free alloc) (word v w ∷ []))) (fresh_own 𝓛 free alloc v w) $ peeks ! I.the_row (Is I.the_row) (shows 𝓛 I.the_row) (fresh free alloc) (word v w ∷ []) (λ is_heap.
     sets ! (agg ! (and_then ! (get ! refl) (and_then ! (lit ! tt) (and_then ! (lit ! tt) (and_then ! (false_lit !) (and_then ! (get ! refl)
     (and_then ! (big_lit ! (record { fits = lit< tt })) (and_then ! (get ! refl) (no_more !)))))))))
-    refl ((lawful I.the_type I'.the_laws 𝓛).typed (fresh free alloc every) (word v w ∷ []) is_heap).0 $
-    use1 𝓛 (‵ ((T.the_row).own_val (view (fresh free alloc every)) (word v w ∷ []))) (empty_own 𝓛 free alloc every (word v w ∷ [])) $
+    refl ((lawful I.the_type I'.the_laws 𝓛).typed (fresh free alloc) (word v w ∷ []) is_heap).0 $
+    use1 𝓛 (‵ ((T.the_row).own_val (view (fresh free alloc)) (word v w ∷ []))) (empty_own 𝓛 free alloc every (word v w ∷ [])) $
     returns ! (look_at ! 0 refl) $ free_all ! refl $ keep ! (0 ∷ []) $
-    suffices ! _ (ends_at 𝓛 f.ended stayed c z (word v w) (view (fresh free alloc every)) (tt, tt) (tt, tt)) $ says ! (nones_none, held_none, refl) $
+    suffices ! _ (ends_at 𝓛 f.ended stayed c z (word v w) (view (fresh free alloc)) (tt, tt) (tt, tt)) $ says ! (nones_none, held_none, refl) $
     nothing ! $ nothing ! $ fjoin ! $ join ! $ nothing ! $ join ! $ done !))))))))))

@@ -56,11 +56,11 @@ read_spec 𝓤 𝓛 𝓜 𝓡 wired =
     enter ! _ _ _ _ _ $
     alloc_all ! (λ l. pass_all ! refl ((tt, tt), ((tt, record { fits = are.1.0.1 }), ((tt, record { fits = are.1.1.0.1 }), tt))) $
     fsplit3 ! $ move ! (1 ∷ 2 ∷ 3 ∷ []) $
-    heap_opens ! tt s rb ro (λ h seen la lf fs.
+    heap_opens ! tt s rb ro (λ h seen kept la lf fs.
     let ws : List ℕ = get_or h.words b [] in let x : ℕ = get_or ws i 0 in
     let full : length ws ≡ block_words = subst (λ (t : State). length (get_or t.words b []) ≡ block_words) (sym seen) full₀ in
     let used : 0 < length ws = omega (arith, full) in
-    let lt : b < length h.words = below_length h.words b used in let bl : b < block_count = omega (arith, lt, h.sized) in
+    let lt : b < length h.words = below_length h.words b used in let bl : b < block_count = omega (arith, lt, kept.sized) in
     let fb : b < 2 ^ 64 = omega (arith, bl) in let fb8 : b * 8 < 2 ^ 64 = omega (arith, bl) in
     let fi : i < 2 ^ 64 = omega (arith, inside) in let fi8 : i * 8 < 2 ^ 64 = omega (arith, inside) in
     block_out ! h.at h.words b rb (ro + 0) bl la used (λ bb oo e.
@@ -87,7 +87,7 @@ read_spec 𝓤 𝓛 𝓜 𝓡 wired =
     rewrite ! 0 (λ (vs : List ℕ). ‵ (part_at (Array u64 block_words) full_share vs bb oo)) (set-get_or ws i 0) refl $
     move ! (1 ∷ 2 ∷ 0 ∷ []) $ block_in ! h.at h.words b rb (ro + 0) bb oo ws bl la e used $
     rewrite ! 1 (λ (wss : List (List ℕ)). ‵ (owned h.at wss)) (set-get_or h.words b []) refl $
-    heap_closes ! tt h rb ro $
+    heap_closes ! tt h kept rb ro $
     returns ! (look_at ! 0 refl) $ free_all ! refl $
     -- [two parts of self; the token; self's first part]
     move ! (3 ∷ []) $

@@ -31,7 +31,7 @@ use Rattle.std.proofs.VecSteps.Shapes.{after}
 use Rattle.heap.proofs.HeldCount.{below_length}
 use Rattle.heap.proofs.Elements.{take_out, put_in}
 use Rattle.heap.proofs.OpenHeap.{heap_opens, heap_closes}
-use Rattle.heap.proofs.Turns.{kept_of, written_keeps}
+use Rattle.heap.proofs.Turns.{written_keeps}
 use Rattle.heap.proofs.OneBlock.{block_out, block_in}
 use Rattle.heap.proofs.Heap.write.Statement.{statement}
 use Rattle.heap.proofs.Heap.write.Code as code
@@ -55,11 +55,11 @@ write_spec 𝓤 𝓛 𝓜 𝓡 wired =
     enter ! _ _ _ _ _ $
     alloc_all ! (λ l. pass_all ! refl ((tt, tt), ((tt, record { fits = are.1.0.1 }), ((tt, record { fits = are.1.1.0.1 }), ((tt, record { fits = are.1.1.1.0.1 }), tt)))) $
     fsplit3 ! $ move ! (1 ∷ 2 ∷ 3 ∷ []) $
-    heap_opens ! tt s rb ro (λ h seen la lf fs.
+    heap_opens ! tt s rb ro (λ h seen kept la lf fs.
     let ws : List ℕ = get_or h.words b [] in let new : List ℕ = set ws i x in
     let full : length ws ≡ block_words = subst (λ (t : State). length (get_or t.words b []) ≡ block_words) (sym seen) full₀ in
     let used : 0 < length ws = omega (arith, full) in let some : 0 < length new = omega (arith, full, length-set ws i x) in
-    let lt : b < length h.words = below_length h.words b used in let bl : b < block_count = omega (arith, lt, h.sized) in
+    let lt : b < length h.words = below_length h.words b used in let bl : b < block_count = omega (arith, lt, kept.sized) in
     let fb : b < 2 ^ 64 = omega (arith, bl) in let fb8 : b * 8 < 2 ^ 64 = omega (arith, bl) in
     let fi : i < 2 ^ 64 = omega (arith, inside) in let fi8 : i * 8 < 2 ^ 64 = omega (arith, inside) in
     block_out ! h.at h.words b rb (ro + 0) bl la used (λ bb oo e.
@@ -83,9 +83,9 @@ write_spec 𝓤 𝓛 𝓜 𝓡 wired =
     use1 𝓛 (‵ (part_at u64 full_share x bb (i * 8 + oo))) (uint_in 𝓛 full_share w64 x bb (i * 8 + oo)) $
     use2 𝓛 (‵ (part_at (Array u64 block_words) full_share new bb oo)) (put_in 𝓛 u64 tt block_words ws i x bb oo inside l64) $
     move ! (1 ∷ 2 ∷ 0 ∷ []) $ block_in ! h.at h.words b rb (ro + 0) bb oo new bl la e some $
-    let keeps = written_keeps h.words h.free h.spare (kept_of h) b i x in
-    let h' : Inside = record h { words = set h.words b new; sized = keeps.sized; counts = keeps.counts; valid = keeps.valid; unheld = keeps.unheld; distinct = keeps.distinct } in
-    heap_closes ! tt h' rb ro $
+    let keeps = written_keeps h.words h.free h.spare kept b i x in
+    let h' : Inside = record h { words = set h.words b new } in
+    heap_closes ! tt h' keeps rb ro $
     returns ! (look_at ! 0 refl) $ free_all ! refl $
     -- [two parts of self; the token; self's first part]
     move ! (3 ∷ []) $

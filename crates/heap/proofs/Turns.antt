@@ -78,16 +78,14 @@ module _ (wss : List (List ℕ)) (free : List ℕ) (n : ℕ) (kept : Kept wss fr
           distinct = push_distinct free n b fit wss unheld used distinct;
         }
 
-  pub written_keeps : (b i x : ℕ) → Kept (set wss b (set (get_or wss b []) i x)) free n
-  written_keeps b i x =
-      let ws : List ℕ = set (get_or wss b []) i x in let same : length ws ≡ length (get_or wss b []) = length-set (get_or wss b []) i x in
-      record {
-        sized = length-set wss b ws ∙ sized;
-        counts = ap (λ (m : ℕ). m + n) (held_same wss b ws same) ∙ counts;
-        valid = valid;
-        unheld = λ j l. lengths_same wss b ws same (get_or free j 0) ∙ unheld j l;
-        distinct = distinct;
-      }
+  pub changed_keeps : (b : ℕ) (ws : List ℕ) → length ws ≡ length (get_or wss b []) → Kept (set wss b ws) free n
+  changed_keeps b ws same = record {
+    sized = length-set wss b ws ∙ sized;
+    counts = ap (λ (m : ℕ). m + n) (held_same wss b ws same) ∙ counts;
+    valid = valid;
+    unheld = λ j l. lengths_same wss b ws same (get_or free j 0) ∙ unheld j l;
+    distinct = distinct;
+  }
 
 -- what the ground is then
 module _ (wss : List (List ℕ)) where

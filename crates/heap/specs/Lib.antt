@@ -3,3 +3,4 @@ pub mod Sizes
 pub mod FreeList
 pub mod Kept
 pub mod State
+pub mod Lending

@@ -3,6 +3,7 @@ ghost use Rattle.std.specs.Prelude.{◌≡◌, ◌<◌, [], length, slice_index,
 ghost use Rattle.things.specs.Ground.{AtStart};
 ghost use Rattle.heap.specs.Owned.{held, ground_of};
 ghost use Rattle.heap.specs.Sizes.{block_words, block_count};
+ghost use Rattle.std.specs.Borrow.{sem};
 
 use std::alloc::Global;
 
@@ -10,6 +11,8 @@ use crate::free_list::all_free;
 use crate::{BLOCKS, Heap, WORDS};
 
 impl Heap {
+    ghost use Rattle.heap.specs.Lending.{LendsBlock};
+
     // A heap that holds nothing.
     pub(crate) fn empty(alloc: Global) -> Heap
         ensures { AtStart (ground_of result.words result.left result.top result.failed) }
@@ -53,14 +56,25 @@ impl Heap {
         unsafe { Box::from_raw(alloc, p) }
     }
 
+    // Block b, lent. It has then the words that were left there.
+    fn block(&mut self, b: u32) -> &mut [u64; WORDS]
+        requires held { length (slice_index_or self.old.words b []) ≡ block_words }
+        ensures* writes_back { sem 𝓛 (LendsBlock self.entry b result) }
+        ensures words { result.now ≡ slice_index_or self.old.words b [] }
+    {
+        let p = self.at[b as usize];
+        unsafe { &mut *p }
+    }
+}
+
+impl Heap {
     pub(crate) fn read(&mut self, b: u32, i: u32) -> u64
         requires held { length (slice_index_or self.old.words b []) ≡ block_words }
         requires inside { i < block_words }
         ensures word { result ≡ slice_index (slice_index_or self.old.words b []) i }
         ensures same { self.new ≡ self.old }
     {
-        let p = self.at[b as usize];
-        unsafe { (*p)[i as usize] }
+        self.block(b)[i as usize]
     }
 
     pub(crate) fn write(&mut self, b: u32, i: u32, x: u64)
@@ -68,9 +82,6 @@ impl Heap {
         requires inside { i < block_words }
         ensures { self.new ≡ record self.old { words = slice_set self.old.words b (slice_set (slice_index_or self.old.words b []) i x) } }
     {
-        let p = self.at[b as usize];
-        unsafe {
-            (*p)[i as usize] = x;
-        }
+        self.block(b)[i as usize] = x;
     }
 }

@@ -56,32 +56,13 @@ impl Heap {
         unsafe { Box::from_raw(alloc, p) }
     }
 
-    // Block b, lent. It has then the words that were left there.
-    fn block(&mut self, b: u32) -> &mut [u64; WORDS]
+    // Block b, lent. The heap has then the words that were left there.
+    pub(crate) fn block(&mut self, b: u32) -> &mut [u64; WORDS]
         requires held { length (slice_index_or self.old.words b []) ≡ block_words }
         ensures* writes_back { sem 𝓛 (LendsBlock self.entry b result) }
         ensures words { result.now ≡ slice_index_or self.old.words b [] }
     {
         let p = self.at[b as usize];
         unsafe { &mut *p }
-    }
-}
-
-impl Heap {
-    pub(crate) fn read(&mut self, b: u32, i: u32) -> u64
-        requires held { length (slice_index_or self.old.words b []) ≡ block_words }
-        requires inside { i < block_words }
-        ensures word { result ≡ slice_index (slice_index_or self.old.words b []) i }
-        ensures same { self.new ≡ self.old }
-    {
-        self.block(b)[i as usize]
-    }
-
-    pub(crate) fn write(&mut self, b: u32, i: u32, x: u64)
-        requires held { length (slice_index_or self.old.words b []) ≡ block_words }
-        requires inside { i < block_words }
-        ensures { self.new ≡ record self.old { words = slice_set self.old.words b (slice_set (slice_index_or self.old.words b []) i x) } }
-    {
-        self.block(b)[i as usize] = x;
     }
 }

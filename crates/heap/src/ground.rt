@@ -32,12 +32,12 @@ impl Blocks for Heap {
 
     fn get(&mut self, b: u32, i: u32) -> u64 {
         self.left -= 1;
-        self.read(b, i)
+        self.block(b)[i as usize]
     }
 
     fn put(&mut self, b: u32, i: u32, x: u64) {
         self.left -= 1;
-        self.write(b, i, x);
+        self.block(b)[i as usize] = x;
     }
 }
 

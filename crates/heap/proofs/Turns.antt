@@ -1,5 +1,6 @@
 -- What stays true of a heap when a block is obtained or released, and what the ground is then. Assumes nothing.
-use Rattle.std.proofs.Common.{◌≡◌, ℕ, suc, ◌+◌, ◌-◌, ◌<◌, ◌≤◌, Bool, cond, eqb, List, [], ◌∷◌, length, get_or, set, Some, sym, refl, ap, ◌∙◌, subst, length-set, arith, not-suc-le-zero}
+use Rattle.std.proofs.Common.{◌≡◌, ℕ, ◌+◌, ◌-◌, ◌<◌, ◌≤◌, Bool, cond, eqb, List, [], ◌∷◌, length, get_or, set, Some, sym, ap, ◌∙◌, subst, length-set, arith, not-suc-le-zero}
+use Rattle.std.proofs.lemmas.List.{nil_from_length}
 use Rattle.things.specs.Ground.{Obtains, got as gets, released, written}
 use Rattle.heap.specs.Sizes.{block_words, block_count}
 use Rattle.heap.specs.Owned.{held, ground_of}
@@ -7,10 +8,6 @@ use Rattle.heap.specs.Kept.{Kept}
 use Rattle.heap.proofs.Grounds.{ground_is, block_set, lengths_same}
 use Rattle.heap.proofs.HeldCount.{held_more, held_less, held_same, below_length}
 use Rattle.heap.proofs.FreeList.{push_valid, push_unheld, push_distinct, pop_valid, pop_unheld, pop_distinct}
-
-no_words : (ws : List ℕ) → length ws ≡ 0 → ws ≡ []
-no_words [] e = refl
-no_words (w ∷ ws) e = let z : suc (length ws) ≤ 0 = omega arith in absurd (not-suc-le-zero z)
 
 filled : (wss : List (List ℕ)) (b : ℕ) (ws : List ℕ) → b < length wss → length (get_or wss b []) ≡ 0 → length ws ≡ block_words → held (set wss b ws) ≡ held wss + 1
 filled wss b [] l e f = let z : 1 ≤ 0 = omega arith in absurd (not-suc-le-zero z)
@@ -93,7 +90,7 @@ module _ (wss : List (List ℕ)) where
       → (l t : ℕ) (y : Bool) → Obtains (ground_of wss l t y) (Some b) (ground_of (set wss b ws) (l - 1) t y)
   obtained b ws sized slot full l t y = subst (Obtains (ground_of wss l t y) (Some b))
       (sym (ground_is (λ c. get_or (set wss b ws) c []) (λ c. cond (eqb c b) ws (get_or wss c [])) (block_set wss b ws slot.0) (held (set wss b ws)) (held wss + 1) (filled wss b ws slot.0 slot.1 full) (l - 1) t y))
-      (gets b ws (let i = slot.0 in omega arith) (no_words (get_or wss b []) slot.1) full)
+      (gets b ws (let i = slot.0 in omega arith) (nil_from_length (get_or wss b []) slot.1) full)
 
   pub released_is : (b : ℕ) → length (get_or wss b []) ≡ block_words → (l t : ℕ) (y : Bool) → ground_of (set wss b []) (l - 1) t y ≡ released b (ground_of wss l t y)
   released_is b full l t y =

@@ -5,10 +5,9 @@ ghost use Rattle.heap.specs.Owned.{held, ground_of};
 ghost use Rattle.heap.specs.Sizes.{block_words, block_count};
 ghost use Rattle.std.specs.Borrow.{sem};
 
-use std::alloc::Global;
-
 use crate::free_list::all_free;
 use crate::{BLOCKS, Heap, WORDS};
+use std::alloc::Global;
 
 impl Heap {
     ghost use Rattle.heap.specs.Lending.{LendsBlock};

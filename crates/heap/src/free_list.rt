@@ -8,10 +8,10 @@ use crate::BLOCKS;
 pub(crate) fn all_free() -> [u32; BLOCKS]
     ensures { (j : ℕ) → j < block_count → slice_index result j ≡ j }
 {
-    std::array::from_fn(|n| -> u32
-        requires { n < block_count }
-        ensures { result ≡ n }
-    {
-        n as u32
-    })
+    std::array::from_fn(
+        |n| -> u32
+            requires { n < block_count }
+            ensures { result ≡ n }
+        { n as u32 },
+    )
 }

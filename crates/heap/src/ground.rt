@@ -1,9 +1,8 @@
 // A heap is blocks, and keeps the bounds that are set for whoever asks.
 ghost use Rattle.heap.specs.Owned.{ground_of};
 
-use things::{Blocks, Bounds};
-
 use crate::{BLOCKS, Heap, WORDS};
+use things::{Blocks, Bounds};
 
 impl Blocks for Heap {
     ghost as_ground = { λ h. ground_of h.words h.left h.top h.failed };

@@ -1,23 +1,22 @@
 -- `block` lends a block. Assumes `Logic`.
-use Rattle.std.proofs.Common.{◌≡◌, ℕ, ◌+◌, ◌*◌, ◌^◌, ◌<◌, List, [], ◌∷◌, length, get_or, set, sym, subst, refl, length-set, arith, w32, w64}
+use Rattle.std.proofs.Common.{◌≡◌, ℕ, ◌+◌, ◌*◌, ◌^◌, ◌<◌, List, [], ◌∷◌, length, get_or, sym, subst, refl, arith, w32}
 use Rattle.std.proofs.raw_atomic.Walks.{proved}
-use base.Fraction.{full_share}
 use base.Fml.{ftrue, flft, GName}
-use mir.Syntax.{ty_int, named}
+use mir.Syntax.{named}
 use mir.Val.{vint, vptr}
 use contract.Monad.{fact}
 use contract.Running.{tables}
 use types.Logic.{sem}
-use types.Kit.{later, some, await, pick, fjoin, ‵, raw, ◌⊛◌, given, at_ret, ◌$◌, ◌∵◌, !, qed, move, keep, use1, use2, learn, split, split3, join, fsplit3, feq_i, suffices, frame, group, done}
-use types.Run.{enter, of_opd, lit, unit_lit, un, bin, addr, load, look, store, stop, fld, first, blocks, exec, returns}
+use types.Kit.{later, some, await, pick, fjoin, ‵, raw, ◌⊛◌, at_ret, ◌$◌, ◌∵◌, !, qed, move, keep, use1, split, split3, join, fsplit3, suffices, frame, group, done}
+use types.Run.{enter, of_opd, lit, un, bin, addr, load, look, stop, fld, first, blocks, exec, returns}
 use types.ByLocal.{sets_last, alloc_all, pass_all, free_all, look_at, get, through, sets, env}
 use denote.Exit.{yes, no}
 use denote.RattleType.{owns, Valss}
-use denote.Memory.{part_at, shares, part_of}
+use denote.Memory.{part_of}
 use denote.Array.{Array}
 use denote.Builtin.{u32, u64}
 use denote.Follow.{follows, lends_Part}
-use denote.Plain.{uint_vals, uint_Tells, uint_out, uint_in}
+use denote.Plain.{uint_vals, uint_Tells}
 use denote.Ref.{MutRef, mut_vals, mut_Tells}
 use denote.Signature.{plain, mut_ref_to}
 use denote.Steps.{nothing, heard}
@@ -25,8 +24,6 @@ use denote.Triple.Walked.{Stays, walk_of, says, stay_dropped, Goes-dropped, Goes
 use Rattle.heap.specs.Sizes.{block_words, block_count}
 use Rattle.heap.specs.Lending.{with_block}
 use Rattle.heap.specs.State.{State}
-use Rattle.heap.specs.declared.Heap.TheInside.{Inside}
-use Rattle.heap.specs.declared.Heap.TheView.{view}
 use Rattle.heap.specs.contracts.Heap.{the_row as R}
 use Rattle.heap.specs.contracts.Heap.block as f
 use Rattle.std.proofs.VecSteps.Shapes.{after}

@@ -15,9 +15,8 @@ use denote.Index.{others}
 use denote.RawPtr.{RawPtr, block_ptr, null_ptr}
 use Rattle.heap.specs.Sizes.{block_words, block_count}
 use Rattle.heap.specs.Kept.{Kept}
-use Rattle.heap.specs.Lending.{with_block}
 use Rattle.heap.specs.Owned.{token}
-use Rattle.heap.specs.State.{State}
+use Rattle.heap.specs.State.{State, with_block}
 use Rattle.heap.specs.contracts.Heap.{the_row as R}
 use Rattle.heap.specs.declared.Heap.TheInside.{Inside}
 use Rattle.heap.specs.declared.Heap.TheView.{view}

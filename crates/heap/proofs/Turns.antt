@@ -33,8 +33,8 @@ module _ (wss : List (List ℕ)) (free : List ℕ) (n : ℕ) (kept : Kept wss fr
     inside : b < length wss
     inside = let v = obtained_below in omega arith
 
-    pub obtained_slot : (b < length wss) × (length (get_or wss b []) ≡ 0)
-    obtained_slot = (inside, unheld (n - 1) top)
+    pub obtained_unheld : length (get_or wss b []) ≡ 0
+    obtained_unheld = unheld (n - 1) top
 
     more : held (set wss b ws) ≡ held wss + 1
     more = filled wss b ws inside (unheld (n - 1) top) full
@@ -86,11 +86,13 @@ module _ (wss : List (List ℕ)) (free : List ℕ) (n : ℕ) (kept : Kept wss fr
 
 -- what the ground is then
 module _ (wss : List (List ℕ)) where
-  pub obtained : (b : ℕ) (ws : List ℕ) → length wss ≡ block_count → (b < length wss) × (length (get_or wss b []) ≡ 0) → length ws ≡ block_words
+  pub obtained : (b : ℕ) (ws : List ℕ) → length wss ≡ block_count → b < block_count → length (get_or wss b []) ≡ 0 → length ws ≡ block_words
       → (l t : ℕ) (y : Bool) → Obtains (ground_of wss l t y) (Some b) (ground_of (set wss b ws) (l - 1) t y)
-  obtained b ws sized slot full l t y = subst (Obtains (ground_of wss l t y) (Some b))
-      (sym (ground_is (λ c. get_or (set wss b ws) c []) (λ c. cond (eqb c b) ws (get_or wss c [])) (block_set wss b ws slot.0) (held (set wss b ws)) (held wss + 1) (filled wss b ws slot.0 slot.1 full) (l - 1) t y))
-      (gets b ws (let i = slot.0 in omega arith) (nil_from_length (get_or wss b []) slot.1) full)
+  obtained b ws sized below none full l t y =
+      let inside : b < length wss = omega (arith, sized, below) in
+      subst (Obtains (ground_of wss l t y) (Some b))
+      (sym (ground_is (λ c. get_or (set wss b ws) c []) (λ c. cond (eqb c b) ws (get_or wss c [])) (block_set wss b ws inside) (held (set wss b ws)) (held wss + 1) (filled wss b ws inside none full) (l - 1) t y))
+      (gets b ws (omega (arith, below)) (nil_from_length (get_or wss b []) none) full)
 
   pub released_is : (b : ℕ) → length (get_or wss b []) ≡ block_words → (l t : ℕ) (y : Bool) → ground_of (set wss b []) (l - 1) t y ≡ released b (ground_of wss l t y)
   released_is b full l t y =

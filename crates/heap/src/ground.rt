@@ -1,11 +1,11 @@
 // A heap is blocks, and keeps the bounds that are set for whoever asks.
-ghost use Rattle.heap.specs.Owned.{ground_of};
+ghost use Rattle.heap.specs.State.{state_ground};
 
 use crate::{BLOCKS, Heap, WORDS};
 use things::{Blocks, Bounds};
 
 impl Blocks for Heap {
-    ghost as_ground = { λ h. ground_of h.words h.left h.top h.failed };
+    ghost as_ground = { state_ground };
 
     // Refuses when all blocks are held, and when the allocator does.
     fn obtain(&mut self) -> Option<u32> {

@@ -3,9 +3,9 @@
 
 ghost use Rattle.std.specs.Prelude.{◌≡◌, ℕ, List};
 ghost use Rattle.things.specs.Ground.{AtStart};
-ghost use Rattle.heap.specs.Owned.{owned, held, ground_of};
+ghost use Rattle.heap.specs.Owned.{owned, held};
 ghost use Rattle.heap.specs.Kept.{Kept};
-ghost use Rattle.heap.specs.State.{State};
+ghost use Rattle.heap.specs.State.{State, state_ground};
 
 mod blocks;
 mod free_list;
@@ -27,7 +27,8 @@ pub struct Heap {
     left: u64,
     top: u64,
     failed: bool,
-    // the free list, a stack: its first `spare` numbers are those of the blocks that are not held
+    // the free list, a stack: its first `spare` numbers are those of the blocks that are not held.
+    // A type with push and pop would be no plainer: what it says changes at once with `words`, so `hold` and `let_go` would have to lend it for a call, by hand
     free: [u32; BLOCKS],
     spare: usize,
     // the handle to the allocator
@@ -49,7 +50,7 @@ impl Model for Heap {
 impl Heap {
     // A heap that holds nothing.
     pub fn new(memory: Memory) -> Heap
-        ensures { AtStart (ground_of result.words result.left result.top result.failed) }
+        ensures { AtStart (state_ground result) }
     {
         Heap::empty(Global::new(memory))
     }

@@ -22,8 +22,7 @@ use denote.Signature.{plain, mut_ref_to}
 use denote.Steps.{nothing, heard}
 use denote.Triple.Walked.{Stays, walk_of, says, stay_dropped, Goes-dropped, Goes-spent_ref, ends_at}
 use Rattle.heap.specs.Sizes.{block_words, block_count}
-use Rattle.heap.specs.Lending.{with_block}
-use Rattle.heap.specs.State.{State}
+use Rattle.heap.specs.State.{State, with_block}
 use Rattle.heap.specs.contracts.Heap.{the_row as R}
 use Rattle.heap.specs.contracts.Heap.block as f
 use Rattle.std.proofs.VecSteps.Shapes.{after}

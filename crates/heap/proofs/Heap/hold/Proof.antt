@@ -51,8 +51,8 @@ use Rattle.heap.specs.contracts.Heap.hold as f
 use Rattle.heap.proofs.Destruct++none.drop.Code as dropped
 use Rattle.heap.proofs.BlockBox.{Words, words_laws, Handle, handle_laws, no_drop, E}
 use Rattle.heap.proofs.Elements.{array_length, take_out, put_in}
-use Rattle.heap.proofs.Facts.{says_two}
-use Rattle.heap.proofs.Turns.{obtained_below, obtained_list, obtained_slot, obtained_keeps}
+use Rattle.heap.proofs.Facts.{says_three}
+use Rattle.heap.proofs.Turns.{obtained_below, obtained_list, obtained_unheld, obtained_keeps}
 use Rattle.heap.proofs.OpenHeap.{free_at, heap_opens, heap_closes}
 use Rattle.heap.proofs.OneBlock.{slot_out, slot_in}
 use Rattle.heap.proofs.Heap.hold.Statement.{statement}
@@ -140,6 +140,7 @@ hold_spec 𝓤 𝓛 𝓜 𝓡 wired =
     -- [two parts of self; the token; self's first part]
     move ! (3 ∷ []) $
     suffices ! _ (ends_at 𝓛 f.ended stayed c z (vint w32 b) b (view h', (tt, tt)) (tt, (tt, tt))) $
-    says_two ! (subst (λ (t : State). (b < length t.words) × (length (get_or t.words b []) ≡ 0)) seen (obtained_slot h.words h.free h.spare kept pos d.value full), subst (λ (t : State). view h' ≡ record t { words = set t.words b d.value }) seen refl) $
+    says_three ! bl (subst (λ (t : State). length (get_or t.words b []) ≡ 0) seen (obtained_unheld h.words h.free h.spare kept pos d.value full))
+    (subst (λ (t : State). view h' ≡ record t { words = set t.words b d.value }) seen refl) $
     group ! 3 $ nothing ! $ nothing ! $ join ! $ move ! (1 ∷ 0 ∷ []) $ join ! $ nothing ! $ move ! (2 ∷ 0 ∷ []) $ join ! $ frame ! $ frame ! $
     owns_it ! u32 _ (uint_Makes 𝓛 w32) b _ (refl, fb') $ done !)))))))))))))

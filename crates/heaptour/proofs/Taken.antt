@@ -1,5 +1,5 @@
 -- What `Obtains` says where nothing was held. Assumes nothing.
-use Rattle.std.proofs.Common.{◌≡◌, ℕ, ◌+◌, ◌-◌, Bool, true, false, cond, T, eqb, List, length, Option, refl, ap, ◌∙◌}
+use Rattle.std.proofs.Common.{◌≡◌, ℕ, ◌+◌, ◌-◌, eqb, List, length, Option, refl, ap, ◌∙◌}
 use Rattle.std.proofs.lemmas.Bool.{cond-true, eq-eqb}
 use Rattle.things.specs.Ground.{Ground, Obtains, got, none, at}
 use Rattle.heaptour.specs.OneBlock.{Took}

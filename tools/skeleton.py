@@ -29,7 +29,7 @@ options.add_argument("--ensures", type=int, default=1, choices=(1, 2))
 o = options.parse_args()
 
 BITS = {"u8": 8, "u16": 16, "u32": 32, "u64": 64, "usize": 64}
-TAKEN = "c W 𝓣 M y a l are bounds κs qs h h' rb ro numbers r fits rest f R code stayed la lf fs s seen us".split()
+TAKEN = "c W 𝓣 M y a l are bounds κs qs h h' rb ro numbers r fits rest f R code stayed kept la lf fs s seen us".split()
 params = [p.strip().split(":") for p in o.params.split(",") if p.strip()]
 facts = [p.strip() for p in o.requires.split(",") if p.strip()]
 if [p for p in params if len(p) != 2 or p[1] not in BITS] or o.result not in ["unit", "bool"] + list(BITS):
@@ -69,9 +69,9 @@ struct, path = o.type.strip("/").replace("/", "."), o.path.strip("/").replace("/
 file, _, short = o.opens.partition(":")
 if o.opens and not short:
     sys.exit("skeleton.py: --opens is FILE:NAME")
-opens = "%s_opens ! tt s rb ro (λ h seen la lf fs." % short if short else "opens ! tt R rb ro (λ us."
+opens = "%s_opens ! tt s rb ro (λ h seen kept la lf fs." % short if short else "opens ! tt R rb ro (λ us."
 entry, fields, last_value = ("s", "Inside", "(view h')") if short else ("h", "R.Denot", "h'")
-closes = "%s_closes ! tt h' rb ro" % short if short else "closes ! tt R h' us rb ro"
+closes = "%s_closes ! tt h' ? rb ro" % short if short else "closes ! tt R h' us rb ro"
 extra = ["use Rattle.%s.proofs.Facts.{says_two}" % crate] if o.ensures == 2 else []
 if short:
     extra += ["use Rattle.%s.specs.declared.%s.TheInside.{Inside}" % (crate, struct), "use Rattle.%s.specs.declared.%s.TheView.{view}" % (crate, struct)]

@@ -17,6 +17,7 @@ use Rattle.std.specs.Global.{Global}
 use Rattle.std.specs.contracts.alloc.Global as heap
 use Rattle.heap.specs.Sizes.{block_count}
 use Rattle.heap.specs.Owned.{one, owned, held}
+use Rattle.heap.specs.Kept.{Kept}
 use Rattle.heap.specs.State.{State}
 use Rattle.heap.specs.declared.Heap.{the_code}
 use Rattle.heap.specs.declared.Heap.TheInside.{Inside}
@@ -69,8 +70,8 @@ nones_many = many_at block_count
 abbrev pub Every : List ℕ → Type 0
 Every free = (j : ℕ) → j < block_count → get_or free j 0 ≡ j
 
-abbrev pub fresh : (free : List ℕ) → Global → Every free → Inside
-fresh free alloc e = record {
+abbrev pub fresh : (free : List ℕ) → Global → Inside
+fresh free alloc = record {
   at = nulls;
   left = 0;
   top = 0;
@@ -79,6 +80,10 @@ fresh free alloc e = record {
   spare = block_count;
   alloc = alloc;
   words = nones;
+}
+
+fresh_kept : (free : List ℕ) → Every free → Kept nones free block_count
+fresh_kept free e = record {
   sized = nones_many;
   counts = ap (λ (n : ℕ). n + block_count) held_none;
   valid = λ j h. subst (λ (n : ℕ). n < block_count) (sym (e j h)) h;
@@ -106,9 +111,9 @@ module _ {M : Type 1} {𝓤 : Ura M} (𝓛 : Logic 𝓤) where
   nulls_own = qed 𝓛 [] ∵ feq_i ! (List Val) (vnull ∷ []) (vnull ∷ []) refl $ by ! (Array-repeat 𝓛 RawPtr (rawptr_copy 𝓛) block_count null_ptr vnull)
 
   -- the fields
-  pub fresh_own : (free : List ℕ) (alloc : Global) (e : Every free) (v w : Val)
-      → ent 𝓤 (sep 𝓤 (sem 𝓛 ((Array u32 block_count).own_val free (v ∷ []))) (sem 𝓛 ((heap.the_row).own_val alloc (w ∷ [])))) (sem 𝓛 ((I.the_row).own_val (fresh free alloc e) (word v w ∷ [])))
-  fresh_own free alloc e v w =
+  pub fresh_own : (free : List ℕ) (alloc : Global) (v w : Val)
+      → ent 𝓤 (sep 𝓤 (sem 𝓛 ((Array u32 block_count).own_val free (v ∷ []))) (sem 𝓛 ((heap.the_row).own_val alloc (w ∷ [])))) (sem 𝓛 ((I.the_row).own_val (fresh free alloc) (word v w ∷ [])))
+  fresh_own free alloc v w =
       qed 𝓛 (‵ ((Array u32 block_count).own_val free (v ∷ [])) ∷ ‵ ((heap.the_row).own_val alloc (w ∷ [])) ∷ []) ∵
       nothing ! $ move ! (2 ∷ 0 ∷ []) $ fjoin ! $
       flt_i ! block_count (2 ^ 64) (lit< tt) $ feq_i ! (List Val) (vint w64 block_count ∷ []) (vint w64 block_count ∷ []) refl $ fjoin ! $ fjoin ! $
@@ -118,12 +123,12 @@ module _ {M : Type 1} {𝓤 : Ura M} (𝓛 : Logic 𝓤) where
       flt_i ! 0 (2 ^ 64) (lit< tt) $ feq_i ! (List Val) (vint w64 0 ∷ []) (vint w64 0 ∷ []) refl $ fjoin ! $ fjoin ! $
       use0 𝓛 (‵ ((Array RawPtr block_count).own_val nulls (nulls_val ∷ []))) nulls_own $ fjoin ! $
       feq_i ! (List Val) (word v w ∷ []) (word v w ∷ []) refl $ fjoin ! $
-      fpack ! (Valss (shape I.the_type).fields) (within (shape I.the_type) (to I.the_type (fresh free alloc e)) (word v w ∷ []))
+      fpack ! (Valss (shape I.the_type).fields) (within (shape I.the_type) (to I.the_type (fresh free alloc)) (word v w ∷ []))
       (nulls_val ∷ [], (vint w64 0 ∷ [], (vint w64 0 ∷ [], (vbool false ∷ [], (v ∷ [], (vint w64 block_count ∷ [], (w ∷ [], tt))))))) $
       use0 𝓛 (‵ (owned nulls nones)) owned_none $ move ! (1 ∷ 0 ∷ []) $ fjoin ! $ done !
 
   -- the heap
-  pub empty_own : (free : List ℕ) (alloc : Global) (e : Every free) (vs : List Val) → ent 𝓤 (sem 𝓛 ((I.the_row).own_val (fresh free alloc e) vs)) (sem 𝓛 ((T.the_row).own_val (view (fresh free alloc e)) vs))
-  empty_own free alloc e vs = qed 𝓛 (‵ ((I.the_row).own_val (fresh free alloc e) vs) ∷ []) ∵
-      use0 𝓛 (‵ ((T'.the_opens).rest (view (fresh free alloc e)) (fresh free alloc e))) (view_made I.the_row State the_code view invariant 𝓛 (view (fresh free alloc e)) (fresh free alloc e) (refl, tt)) $
-      move ! (1 ∷ 0 ∷ []) $ by ! ((T'.the_opens).joins M 𝓤 𝓛 (view (fresh free alloc e)) (fresh free alloc e) vs)
+  pub empty_own : (free : List ℕ) (alloc : Global) (e : Every free) (vs : List Val) → ent 𝓤 (sem 𝓛 ((I.the_row).own_val (fresh free alloc) vs)) (sem 𝓛 ((T.the_row).own_val (view (fresh free alloc)) vs))
+  empty_own free alloc e vs = qed 𝓛 (‵ ((I.the_row).own_val (fresh free alloc) vs) ∷ []) ∵
+      use0 𝓛 (‵ ((T'.the_opens).rest (view (fresh free alloc)) (fresh free alloc))) (view_made I.the_row State the_code view invariant 𝓛 (view (fresh free alloc)) (fresh free alloc) (refl, fresh_kept free e)) $
+      move ! (1 ∷ 0 ∷ []) $ by ! ((T'.the_opens).joins M 𝓤 𝓛 (view (fresh free alloc)) (fresh free alloc) vs)

@@ -1,15 +1,8 @@
 -- The free list, when a number is pushed or popped. Assumes nothing.
-use Rattle.std.proofs.Common.{◌≡◌, ℕ, ◌+◌, ◌-◌, ◌<◌, ◌≤◌, Bool, true, false, not, T, eqb, ◌≢◌, List, [], length, get_or, set, sym, ap, ◌∙◌, subst, not-suc-le-zero, arith, eqb→eq, get_or-set_other, get_or-set_same}
+use Rattle.std.proofs.Common.{◌≡◌, ℕ, ◌+◌, ◌-◌, ◌<◌, ◌≤◌, ◌≢◌, List, [], length, get_or, set, sym, ap, ◌∙◌, subst, not-suc-le-zero, arith, get_or-set_other, get_or-set_same}
 use Rattle.heap.specs.Sizes.{block_count}
 use Rattle.heap.specs.FreeList.{Unheld, Valid, Distinct}
-use Rattle.heap.proofs.Grounds.{no_eq, lengths_other}
-
-by_eq : {X : Type 0} (j k : ℕ) → (j ≡ k → X) → (j ≢ k → X) → X
-by_eq {X} j k f g = by (eqb j k) (λ t. f (eqb→eq j k t)) (λ t. g (no_eq j k t))
-  where
-    by : (y : Bool) → (T y → X) → (T (not y) → X) → X
-    by true u v = u tt
-    by false u v = v tt
+use Rattle.heap.proofs.Grounds.{by_eq, lengths_other}
 
 -- block b is not held any more
 pub emptied : (wss : List (List ℕ)) (b c : ℕ) → b < length wss → (c ≢ b → length (get_or wss c []) ≡ 0) → length (get_or (set wss b []) c []) ≡ 0

@@ -10,3 +10,4 @@ mod Facts
 mod BlockBox
 mod Lits
 mod EmptyHeap
+mod LentBlock

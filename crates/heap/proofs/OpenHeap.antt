@@ -29,6 +29,7 @@ use denote.Struct.OwningLaws.{part_out, part_in}
 use Rattle.std.specs.contracts.alloc.Global as heap
 use Rattle.heap.specs.Sizes.{block_count}
 use Rattle.heap.specs.Owned.{owned}
+use Rattle.heap.specs.Kept.{Kept}
 use Rattle.heap.specs.State.{State}
 use Rattle.heap.specs.declared.Heap.{the_code}
 use Rattle.heap.specs.declared.Heap.TheInside.{Inside}
@@ -91,7 +92,7 @@ module _ {M : Type 1} {𝓤 : Ura M} (𝓛 : Logic 𝓤) where
 module _ {M : Type 1} {𝓤 : Ura M} {𝓛 : Logic 𝓤} {K : Type 0} {Γ : List (Item 𝓤)} {G : Goal 𝓤 𝓛.H} where
   -- [0 the pointers; 1 what is owned; 2 the free list; 3 spare; 4 the rest; 5 the open borrow; 6 obs; 7 auth]
   pub heap_opens : K → Soaks G → {κ : Lft} {q : Share} {γ : GName} (s : State) (rb ro : ℕ)
-      → ((h : Inside) → view h ≡ s → length h.at ≡ block_count → length h.free ≡ block_count → h.spare < 2 ^ 64
+      → ((h : Inside) → view h ≡ s → Kept h.words h.free h.spare → length h.at ≡ block_count → length h.free ≡ block_count → h.spare < 2 ^ 64
       → Seq K 𝓛 (‵ (part_at (Array RawPtr block_count) full_share h.at rb (ro + 0)) ∷ ‵ (owned h.at h.words)
       ∷ ‵ (part_at (Array u32 block_count) full_share h.free rb (ro + free_at)) ∷ ‵ (fat full_share (ty_int w64) rb (ro + spare_at) (vint w64 h.spare)) ∷ ‵ (Rest h rb ro)
       ∷ ‵ (fobor κ q (Body (mem T.the_row) rb ro γ)) ∷ ‵ (fobs γ ((T.the_row).coded.code s)) ∷ ‵ (fauth γ ((T.the_row).coded.code s)) ∷ Γ) G)
@@ -113,15 +114,14 @@ module _ {M : Type 1} {𝓤 : Ura M} {𝓛 : Logic 𝓤} {K : Type 0} {Γ : List
       -- [alloc; spare; free; failed; top; left; the pointers; what is left of the struct; what is owned]
       move t (0 ∷ 7 ∷ []) $ fjoin t $ move t (3 ∷ 0 ∷ []) $ fjoin t $ move t (3 ∷ 0 ∷ []) $ fjoin t $ move t (3 ∷ 0 ∷ []) $ fjoin t $
       -- [the rest; spare; free; the pointers; what is owned]
-      move t (3 ∷ 4 ∷ 2 ∷ 1 ∷ 0 ∷ []) $ k h a.1.0 la lf fs.1.fits))))
+      move t (3 ∷ 4 ∷ 2 ∷ 1 ∷ 0 ∷ []) $ k h a.1.0 a.1.1 la lf fs.1.fits))))
 
-  pub heap_closes : K → Soaks G → {κ : Lft} {q : Share} {u v : Gv} {γ : GName} (h : Inside) (rb ro : ℕ)
-      → Step K 𝓛 (‵ (fobs γ ((T.the_row).coded.code (view h))) ∷ ‵ (fbor κ (Body (mem T.the_row) rb ro γ)) ∷ ‵ (flft κ q) ∷ Γ) G
+  pub heap_made : K → (h : Inside) → Kept h.words h.free h.spare → (rb ro : ℕ)
+      → Step K 𝓛 (‵ (part_at T.the_row full_share (view h) rb ro) ∷ Γ) G
       (‵ (part_at (Array RawPtr block_count) full_share h.at rb (ro + 0)) ∷ ‵ (owned h.at h.words)
-      ∷ ‵ (part_at (Array u32 block_count) full_share h.free rb (ro + free_at)) ∷ ‵ (fat full_share (ty_int w64) rb (ro + spare_at) (vint w64 h.spare)) ∷ ‵ (Rest h rb ro)
-      ∷ ‵ (fobor κ q (Body (mem T.the_row) rb ro γ)) ∷ ‵ (fobs γ u) ∷ ‵ (fauth γ v) ∷ Γ) G
+      ∷ ‵ (part_at (Array u32 block_count) full_share h.free rb (ro + free_at)) ∷ ‵ (fat full_share (ty_int w64) rb (ro + spare_at) (vint w64 h.spare)) ∷ ‵ (Rest h rb ro) ∷ Γ) G
   unfolding part_of
-  heap_closes t z h rb ro = step (λ rest.
+  heap_made t h kept rb ro = step (λ rest.
       move t (4 ∷ []) $ fsplit t $ move t (1 ∷ []) $ fsplit t $ move t (1 ∷ []) $ fsplit t $ move t (1 ∷ []) $ fsplit t $
       -- [alloc; what is left of the struct; failed; top; left; the pointers; what is owned; free; spare]
       nothing t $ move t (1 ∷ 0 ∷ []) $ fjoin t $
@@ -129,5 +129,13 @@ module _ {M : Type 1} {𝓤 : Ura M} {𝓛 : Logic 𝓤} {K : Type 0} {Γ : List
       move t (7 ∷ 0 ∷ []) $ fjoin t $ move t (2 ∷ 0 ∷ []) $ fjoin t $ move t (2 ∷ 0 ∷ []) $ fjoin t $ move t (2 ∷ 0 ∷ []) $ fjoin t $ move t (2 ∷ 0 ∷ []) $ fjoin t $
       use2 𝓛 (‵ (part_at (Struct (shape I.the_type)) full_share (to I.the_type h) rb ro)) (left_Struct 𝓛 full_share (I.the_type).name ms (to I.the_type h) rb ro) $
       use2 𝓛 (‵ (part_at I.the_row full_share h rb ro)) (part_in 𝓛 I.the_type full_share h rb ro) $
-      use1 𝓛 (‵ (part_at T.the_row full_share (view h) rb ro)) (Plain-in T.the_row I.the_row T'.the_opens 𝓛 full_share (view h) h (view_made I.the_row State the_code view invariant 𝓛 (view h) h (refl, tt)) rb ro) $
-      close_ref t z (mem T.the_row) (view h) {b = rb} {o = ro} $ rest)
+      use1 𝓛 (‵ (part_at T.the_row full_share (view h) rb ro)) (Plain-in T.the_row I.the_row T'.the_opens 𝓛 full_share (view h) h (view_made I.the_row State the_code view invariant 𝓛 (view h) h (refl, kept)) rb ro) $ rest)
+
+module _ {M : Type 1} {𝓤 : Ura M} {𝓛 : Logic 𝓤} {K : Type 0} {Γ : List (Item 𝓤)} {G : Goal 𝓤 𝓛.H} where
+  pub heap_closes : K → Soaks G → {κ : Lft} {q : Share} {u v : Gv} {γ : GName} (h : Inside) → Kept h.words h.free h.spare → (rb ro : ℕ)
+      → Step K 𝓛 (‵ (fobs γ ((T.the_row).coded.code (view h))) ∷ ‵ (fbor κ (Body (mem T.the_row) rb ro γ)) ∷ ‵ (flft κ q) ∷ Γ) G
+      (‵ (part_at (Array RawPtr block_count) full_share h.at rb (ro + 0)) ∷ ‵ (owned h.at h.words)
+      ∷ ‵ (part_at (Array u32 block_count) full_share h.free rb (ro + free_at)) ∷ ‵ (fat full_share (ty_int w64) rb (ro + spare_at) (vint w64 h.spare)) ∷ ‵ (Rest h rb ro)
+      ∷ ‵ (fobor κ q (Body (mem T.the_row) rb ro γ)) ∷ ‵ (fobs γ u) ∷ ‵ (fauth γ v) ∷ Γ) G
+  unfolding part_of
+  heap_closes t z h kept rb ro = step (λ rest. heap_made t h kept rb ro $ close_ref t z (mem T.the_row) (view h) {b = rb} {o = ro} $ rest)

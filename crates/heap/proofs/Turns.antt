@@ -1,32 +1,17 @@
 -- What stays true of a heap when a block is obtained or released, and what the ground is then. Assumes nothing.
-use Rattle.std.proofs.Common.{◌≡◌, ℕ, suc, ◌+◌, ◌-◌, ◌<◌, ◌≤◌, Bool, cond, eqb, List, [], ◌∷◌, length, get_or, set, Some, sym, refl, ap, ◌∙◌, subst, length-set, arith, not-suc-le-zero}
+use Rattle.std.proofs.Common.{◌≡◌, ℕ, ◌+◌, ◌-◌, ◌<◌, ◌≤◌, Bool, cond, eqb, List, [], ◌∷◌, length, get_or, set, Some, sym, ap, ◌∙◌, subst, length-set, arith, not-suc-le-zero}
+use Rattle.std.proofs.lemmas.List.{nil_from_length}
 use Rattle.things.specs.Ground.{Obtains, got as gets, released, written}
 use Rattle.heap.specs.Sizes.{block_words, block_count}
 use Rattle.heap.specs.Owned.{held, ground_of}
-use Rattle.heap.specs.FreeList.{Valid, Unheld, Distinct}
-use Rattle.heap.specs.declared.Heap.TheInside.{Inside}
+use Rattle.heap.specs.Kept.{Kept}
 use Rattle.heap.proofs.Grounds.{ground_is, block_set, lengths_same}
 use Rattle.heap.proofs.HeldCount.{held_more, held_less, held_same, below_length}
 use Rattle.heap.proofs.FreeList.{push_valid, push_unheld, push_distinct, pop_valid, pop_unheld, pop_distinct}
 
-no_words : (ws : List ℕ) → length ws ≡ 0 → ws ≡ []
-no_words [] e = refl
-no_words (w ∷ ws) e = let z : suc (length ws) ≤ 0 = omega arith in absurd (not-suc-le-zero z)
-
 filled : (wss : List (List ℕ)) (b : ℕ) (ws : List ℕ) → b < length wss → length (get_or wss b []) ≡ 0 → length ws ≡ block_words → held (set wss b ws) ≡ held wss + 1
 filled wss b [] l e f = let z : 1 ≤ 0 = omega arith in absurd (not-suc-le-zero z)
 filled wss b (w ∷ ws) l e f = held_more wss b w ws l e
-
--- the facts that a heap keeps of its blocks and its free list
-pub record Kept (wss : List (List ℕ)) (free : List ℕ) (n : ℕ) : Type 0 where
-  pub sized : length wss ≡ block_count
-  pub counts : held wss + n ≡ block_count
-  pub valid : Valid free n
-  pub unheld : Unheld free n wss
-  pub distinct : Distinct free n
-
-abbrev pub kept_of : (h : Inside) → Kept h.words h.free h.spare
-kept_of h = record { sized = h.sized; counts = h.counts; valid = h.valid; unheld = h.unheld; distinct = h.distinct }
 
 module _ (wss : List (List ℕ)) (free : List ℕ) (n : ℕ) (kept : Kept wss free n) where
   open kept use {sized, counts, valid, unheld, distinct}
@@ -48,8 +33,8 @@ module _ (wss : List (List ℕ)) (free : List ℕ) (n : ℕ) (kept : Kept wss fr
     inside : b < length wss
     inside = let v = obtained_below in omega arith
 
-    pub obtained_slot : (b < length wss) × (length (get_or wss b []) ≡ 0)
-    obtained_slot = (inside, unheld (n - 1) top)
+    pub obtained_unheld : length (get_or wss b []) ≡ 0
+    obtained_unheld = unheld (n - 1) top
 
     more : held (set wss b ws) ≡ held wss + 1
     more = filled wss b ws inside (unheld (n - 1) top) full
@@ -90,24 +75,24 @@ module _ (wss : List (List ℕ)) (free : List ℕ) (n : ℕ) (kept : Kept wss fr
           distinct = push_distinct free n b fit wss unheld used distinct;
         }
 
-  pub written_keeps : (b i x : ℕ) → Kept (set wss b (set (get_or wss b []) i x)) free n
-  written_keeps b i x =
-      let ws : List ℕ = set (get_or wss b []) i x in let same : length ws ≡ length (get_or wss b []) = length-set (get_or wss b []) i x in
-      record {
-        sized = length-set wss b ws ∙ sized;
-        counts = ap (λ (m : ℕ). m + n) (held_same wss b ws same) ∙ counts;
-        valid = valid;
-        unheld = λ j l. lengths_same wss b ws same (get_or free j 0) ∙ unheld j l;
-        distinct = distinct;
-      }
+  pub changed_keeps : (b : ℕ) (ws : List ℕ) → length ws ≡ length (get_or wss b []) → Kept (set wss b ws) free n
+  changed_keeps b ws same = record {
+    sized = length-set wss b ws ∙ sized;
+    counts = ap (λ (m : ℕ). m + n) (held_same wss b ws same) ∙ counts;
+    valid = valid;
+    unheld = λ j l. lengths_same wss b ws same (get_or free j 0) ∙ unheld j l;
+    distinct = distinct;
+  }
 
 -- what the ground is then
 module _ (wss : List (List ℕ)) where
-  pub obtained : (b : ℕ) (ws : List ℕ) → length wss ≡ block_count → (b < length wss) × (length (get_or wss b []) ≡ 0) → length ws ≡ block_words
+  pub obtained : (b : ℕ) (ws : List ℕ) → length wss ≡ block_count → b < block_count → length (get_or wss b []) ≡ 0 → length ws ≡ block_words
       → (l t : ℕ) (y : Bool) → Obtains (ground_of wss l t y) (Some b) (ground_of (set wss b ws) (l - 1) t y)
-  obtained b ws sized slot full l t y = subst (Obtains (ground_of wss l t y) (Some b))
-      (sym (ground_is (λ c. get_or (set wss b ws) c []) (λ c. cond (eqb c b) ws (get_or wss c [])) (block_set wss b ws slot.0) (held (set wss b ws)) (held wss + 1) (filled wss b ws slot.0 slot.1 full) (l - 1) t y))
-      (gets b ws (let i = slot.0 in omega arith) (no_words (get_or wss b []) slot.1) full)
+  obtained b ws sized below none full l t y =
+      let inside : b < length wss = omega (arith, sized, below) in
+      subst (Obtains (ground_of wss l t y) (Some b))
+      (sym (ground_is (λ c. get_or (set wss b ws) c []) (λ c. cond (eqb c b) ws (get_or wss c [])) (block_set wss b ws inside) (held (set wss b ws)) (held wss + 1) (filled wss b ws inside none full) (l - 1) t y))
+      (gets b ws (omega (arith, below)) (nil_from_length (get_or wss b []) none) full)
 
   pub released_is : (b : ℕ) → length (get_or wss b []) ≡ block_words → (l t : ℕ) (y : Bool) → ground_of (set wss b []) (l - 1) t y ≡ released b (ground_of wss l t y)
   released_is b full l t y =

@@ -1,15 +1,11 @@
 -- What `Obtains` says where nothing was held. Assumes nothing.
-use Rattle.std.proofs.Common.{◌≡◌, ℕ, ◌+◌, ◌-◌, Bool, true, false, cond, T, eqb, List, length, Option, refl, ap, ◌∙◌}
-use lib.Dec.{eqb_refl}
+use Rattle.std.proofs.Common.{◌≡◌, ℕ, ◌+◌, ◌-◌, eqb, List, length, Option, refl, ap, ◌∙◌}
+use Rattle.std.proofs.lemmas.Bool.{cond-true, eq-eqb}
 use Rattle.things.specs.Ground.{Ground, Obtains, got, none, at}
 use Rattle.heaptour.specs.OneBlock.{Took}
 
-cond_yes : {X : Type 0} (y : Bool) (u v : X) → T y → cond y u v ≡ u
-cond_yes true u v t = refl
-cond_yes false u v t = absurd t
-
 at_self : (b : ℕ) (ws : List ℕ) (f : ℕ → List ℕ) → at b ws f b ≡ ws
-at_self b ws f = cond_yes (eqb b b) ws (f b) (eqb_refl b)
+at_self b ws f = cond-true (eqb b b) ws (f b) (eq-eqb b b refl)
 
 pub taken : {g : Ground} {r : Option ℕ} {g' : Ground} → Obtains g r g' → g.many ≡ 0 → (n : ℕ) → g.left - 1 ≡ n → Took r n g'
 taken {g} (got b ws l e k) m n f = record {

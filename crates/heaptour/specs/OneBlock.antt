@@ -1,6 +1,6 @@
 -- A ground of which one block is held, and what it is after each asking.
 -- Assumes nothing.
-use Rattle.std.specs.Prelude.{◌≡◌, ℕ, ◌+◌, ◌<◌, length, Some, None, Option, slice_index, slice_index_or}
+use Rattle.std.specs.Prelude.{◌≡◌, ℕ, ◌+◌, ◌<◌, length, Option, MatchOption, slice_index, slice_index_or}
 use Rattle.things.specs.Ground.{Ground}
 
 -- b is held, and no other block
@@ -16,8 +16,7 @@ pub record Taken (b n : ℕ) (g : Ground) : Type 0 where
 
 -- a block was asked for: it was got, or nothing is held
 abbrev pub Took : Option ℕ → ℕ → Ground → Type 0
-Took (Some b) n g = Taken b n g
-Took None n g = g.many ≡ 0
+Took r n g = MatchOption r (g.many ≡ 0) (λ b. Taken b n g)
 
 -- x was written to word i of b
 pub record Wrote (b i x : ℕ) (g g' : Ground) : Type 0 where

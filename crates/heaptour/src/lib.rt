@@ -1,7 +1,7 @@
 // A word goes through a block of a heap: the block is got, written, read and given back, and the heap is let go.
 #![tactic(auto)]
 
-ghost use Rattle.std.specs.Prelude.{◌≡◌, ◌<◌, true, false, Some, None};
+ghost use Rattle.std.specs.Prelude.{◌≡◌, ◌<◌, IfSome};
 ghost use Rattle.things.specs.Ground.{AtStart};
 ghost use Rattle.heap.specs.Owned.{held};
 ghost use Rattle.heaptour.specs.OneBlock.{Holds, Took, Wrote, Read};
@@ -17,32 +17,27 @@ const PLACE: u32 = 3;
 
 // What goes in comes out; or nothing, where the heap had no block: an allocator may refuse at any time.
 pub fn carry(memory: Memory, x: u64) -> Option<u64>
-    ensures { elim result [ Some y ↦ y ≡ x | None ↦ Unit {0} ] }
+    ensures { IfSome result (λ y. y ≡ x) }
 {
     let mut h = Heap::new(memory);
-    match take(&mut h) {
-        Some(b) => {
-            write(&mut h, b, PLACE, x);
-            let y = read(&mut h, b, PLACE);
-            give_back(&mut h, b);
-            Some(y)
-        }
-        None => None,
-    }
+    let b = take(&mut h)?;
+    write(&mut h, b, PLACE, x);
+    let y = read(&mut h, b, PLACE);
+    give_back(&mut h, b);
+    Some(y)
 }
 
-// Lets a heap go of which it isn't known whether it holds anything, and says whether nothing is lost.
-pub fn let_go(mut h: Heap) -> bool
-    ensures dropped { result ≡ true → held h.words ≡ 0 }
-    ensures leaked { result ≡ false → 0 < held h.words }
+// Lets a heap go of which it isn't known whether it holds anything, and says how many blocks are lost with it.
+pub fn let_go(mut h: Heap) -> u64
+    ensures lost { result ≡ held h.words }
 {
-    if h.many() == 0 {
+    let lost = h.many();
+    if lost == 0 {
         h.drop();
-        true
     } else {
         h.leak();
-        false
     }
+    lost
 }
 
 fn take<B: Blocks + Bounds>(h: &mut B) -> Option<u32>

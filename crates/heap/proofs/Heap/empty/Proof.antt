@@ -31,8 +31,8 @@ use Rattle.heap.specs.declared.Heap.TheView.{view}
 use Rattle.heap.specs.contracts.Heap as T
 use Rattle.heap.specs.contracts.Heap.TheInside as I
 use Rattle.heap.proofs.Heap.TheInside.TheLaws as I'
-use Rattle.heap.specs.contracts.all_free as callee
-use Rattle.heap.proofs.all_free.Met.{met}
+use Rattle.heap.specs.contracts.free_list.all_free as callee
+use Rattle.heap.proofs.free_list.all_free.Met.{met}
 use Rattle.heap.specs.contracts.Heap.empty as f
 use Rattle.heap.proofs.Lits.{big_lit}
 use Rattle.heap.proofs.BlockBox.{Handle, E}
@@ -58,7 +58,7 @@ empty_spec 𝓤 𝓛 𝓜 𝓡 wired =
     let k = triple_of 𝓛 callee.signature (callee.spec 𝓛 𝓜.mem 𝓡.returns) in
     let y : k.Ghost = ((tt, tt, tt, tt, tt), tt) in
     nothing ! $ nothing ! $ nothing ! $ join ! $ join ! $ use1 𝓛 (raw (k.pre y)) (id⊢ 𝓤 _) $
-    calls_at ! (framed 𝓤 𝓛.H 𝓜 𝓣) k (met 𝓤 𝓛 𝓜 𝓡 (code.calls-heap::all_free 𝓡.env wired)) y (no_more !) (λ v.
+    calls_at ! (framed 𝓤 𝓛.H 𝓜 𝓣) k (met 𝓤 𝓛 𝓜 𝓡 (code.calls-heap::free_list::all_free 𝓡.env wired)) y (no_more !) (λ v.
     use1 𝓛 (later (some (λ (r : List ℕ). (‵ ftrue ⊛ ‵ ((Array u32 block_count).own_val r (v ∷ []))) ⊛ some (λ (ws : Unit {0}). ‵ ftrue ⊛ raw (fact 𝓤 (Every r)))))) (id⊢ 𝓤 _) $
     await ! tt $ pick ! (λ free. split ! $ move ! (1 ∷ []) $ pick ! (λ ws. split ! $ drop ! $ heard ! (Every free) (λ every. split ! $ drop ! $
     -- [the free list; the handle]
@@ -66,11 +66,11 @@ empty_spec 𝓤 𝓛 𝓜 𝓡 wired =
     lands_as ! refl refl ((Array-Lawful 𝓛 u32 (uint_Lawful 𝓛 w32) block_count).typed free (v ∷ []) is_free).0 $
     use0 𝓛 (‵ ((Array RawPtr block_count).own_val nulls (nulls_val ∷ []))) (nulls_own 𝓛) $ peeks ! (Array RawPtr block_count) (Is (Array RawPtr block_count)) (shows 𝓛 (Array RawPtr block_count)) nulls (nulls_val ∷ []) (λ is_null. drop ! $
     sets ! (is ! (rep ! block_count (lit ! tt)) nulls_is) refl ((Array-Lawful 𝓛 RawPtr (rawptr_Lawful 𝓛) block_count).typed nulls (nulls_val ∷ []) is_null).0 $
-    use2 𝓛 (‵ ((I.the_row).own_val (fresh free alloc every) (word v w ∷ []))) (fresh_own 𝓛 free alloc every v w) $ peeks ! I.the_row (Is I.the_row) (shows 𝓛 I.the_row) (fresh free alloc every) (word v w ∷ []) (λ is_heap.
+    use2 𝓛 (‵ ((I.the_row).own_val (fresh free alloc) (word v w ∷ []))) (fresh_own 𝓛 free alloc v w) $ peeks ! I.the_row (Is I.the_row) (shows 𝓛 I.the_row) (fresh free alloc) (word v w ∷ []) (λ is_heap.
     sets ! (agg ! (and_then ! (get ! refl) (and_then ! (lit ! tt) (and_then ! (lit ! tt) (and_then ! (false_lit !) (and_then ! (get ! refl)
     (and_then ! (big_lit ! (record { fits = lit< tt })) (and_then ! (get ! refl) (no_more !)))))))))
-    refl ((lawful I.the_type I'.the_laws 𝓛).typed (fresh free alloc every) (word v w ∷ []) is_heap).0 $
-    use1 𝓛 (‵ ((T.the_row).own_val (view (fresh free alloc every)) (word v w ∷ []))) (empty_own 𝓛 free alloc every (word v w ∷ [])) $
+    refl ((lawful I.the_type I'.the_laws 𝓛).typed (fresh free alloc) (word v w ∷ []) is_heap).0 $
+    use1 𝓛 (‵ ((T.the_row).own_val (view (fresh free alloc)) (word v w ∷ []))) (empty_own 𝓛 free alloc every (word v w ∷ [])) $
     returns ! (look_at ! 0 refl) $ free_all ! refl $ keep ! (0 ∷ []) $
-    suffices ! _ (ends_at 𝓛 f.ended stayed c z (word v w) (view (fresh free alloc every)) (tt, tt) (tt, tt)) $ says ! (nones_none, held_none, refl) $
+    suffices ! _ (ends_at 𝓛 f.ended stayed c z (word v w) (view (fresh free alloc)) (tt, tt) (tt, tt)) $ says ! (nones_none, held_none, refl) $
     nothing ! $ nothing ! $ fjoin ! $ join ! $ nothing ! $ join ! $ done !))))))))))

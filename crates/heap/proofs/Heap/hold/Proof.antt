@@ -51,8 +51,8 @@ use Rattle.heap.specs.contracts.Heap.hold as f
 use Rattle.heap.proofs.Destruct++none.drop.Code as dropped
 use Rattle.heap.proofs.BlockBox.{Words, words_laws, Handle, handle_laws, no_drop, E}
 use Rattle.heap.proofs.Elements.{array_length, take_out, put_in}
-use Rattle.heap.proofs.Facts.{says_two}
-use Rattle.heap.proofs.Turns.{kept_of, obtained_below, obtained_list, obtained_slot, obtained_keeps}
+use Rattle.heap.proofs.Facts.{says_three}
+use Rattle.heap.proofs.Turns.{obtained_below, obtained_list, obtained_unheld, obtained_keeps}
 use Rattle.heap.proofs.OpenHeap.{free_at, heap_opens, heap_closes}
 use Rattle.heap.proofs.OneBlock.{slot_out, slot_in}
 use Rattle.heap.proofs.Heap.hold.Statement.{statement}
@@ -102,7 +102,7 @@ hold_spec 𝓤 𝓛 𝓜 𝓡 wired =
     -- [the words; the right to free them; self; the token of its lifetime]
     lands_as ! (ap only is ∙ ap ptr_val at) refl (tt, tt) $
     move ! (2 ∷ []) $ fsplit3 ! $ move ! (1 ∷ 2 ∷ 5 ∷ []) $
-    heap_opens ! tt s rb ro (λ h seen la lf fs. let kept = kept_of h in
+    heap_opens ! tt s rb ro (λ h seen kept la lf fs.
     let k : ℕ = h.spare - 1 in let b : ℕ = get_or h.free k 0 in
     let room' : held h.words < block_count = subst (λ (t : State). held t.words < block_count) (sym seen) room in
     let pos : 0 < h.spare = omega (arith, room', kept.counts) in
@@ -134,12 +134,13 @@ hold_spec 𝓤 𝓛 𝓜 𝓡 wired =
     rewrite ! 0 (λ (xs : List ℕ). ‵ (part_at (Array u32 block_count) full_share xs rb (ro + free_at))) (set-get_or h.free k 0) refl $
     move ! (1 ∷ 2 ∷ 3 ∷ 10 ∷ 11 ∷ []) $ slot_in ! h.at h.words b rb (ro + 0) pb po d.value bl la some' $
     let keeps = obtained_keeps h.words h.free h.spare kept pos d.value full in
-    let h' : Inside = record h { at = set h.at b (block_ptr pb po); spare = k; words = set h.words b d.value; sized = keeps.sized; counts = keeps.counts; valid = keeps.valid; unheld = keeps.unheld; distinct = keeps.distinct } in
-    heap_closes ! tt h' rb ro $
+    let h' : Inside = record h { at = set h.at b (block_ptr pb po); spare = k; words = set h.words b d.value } in
+    heap_closes ! tt h' keeps rb ro $
     returns ! (look_at ! 0 refl) $ free_all ! refl $
     -- [two parts of self; the token; self's first part]
     move ! (3 ∷ []) $
     suffices ! _ (ends_at 𝓛 f.ended stayed c z (vint w32 b) b (view h', (tt, tt)) (tt, (tt, tt))) $
-    says_two ! (subst (λ (t : State). (b < length t.words) × (length (get_or t.words b []) ≡ 0)) seen (obtained_slot h.words h.free h.spare kept pos d.value full), subst (λ (t : State). view h' ≡ record t { words = set t.words b d.value }) seen refl) $
+    says_three ! bl (subst (λ (t : State). length (get_or t.words b []) ≡ 0) seen (obtained_unheld h.words h.free h.spare kept pos d.value full))
+    (subst (λ (t : State). view h' ≡ record t { words = set t.words b d.value }) seen refl) $
     group ! 3 $ nothing ! $ nothing ! $ join ! $ move ! (1 ∷ 0 ∷ []) $ join ! $ nothing ! $ move ! (2 ∷ 0 ∷ []) $ join ! $ frame ! $ frame ! $
     owns_it ! u32 _ (uint_Makes 𝓛 w32) b _ (refl, fb') $ done !)))))))))))))

@@ -50,7 +50,7 @@ use Rattle.heap.proofs.Destruct++none.drop.Code as dropped
 use Rattle.heap.proofs.BlockBox.{Words, words_laws, Handle, handle_laws, no_drop, E}
 use Rattle.heap.proofs.Facts.{says_two}
 use Rattle.heap.proofs.Elements.{take_out, put_in}
-use Rattle.heap.proofs.Turns.{kept_of, released_below, released_room, released_keeps}
+use Rattle.heap.proofs.Turns.{released_below, released_room, released_keeps}
 use Rattle.heap.proofs.OpenHeap.{free_at, heap_opens, heap_closes}
 use Rattle.heap.proofs.OneBlock.{block_out, block_gone}
 use Rattle.heap.proofs.Heap.let_go.Statement.{statement}
@@ -76,7 +76,7 @@ let_go_spec 𝓤 𝓛 𝓜 𝓡 wired =
     alloc_all ! (λ l. pass_all ! refl ((tt, tt), (fits, ((tt, record { fits = are.1.1.0.1 }), tt))) $
     move ! (1 ∷ []) $ fsplit3 ! $ move ! (1 ∷ 2 ∷ 4 ∷ []) $
     -- [self's first part; the handle]
-    heap_opens ! tt s rb ro (λ h seen la lf fs. let kept = kept_of h in
+    heap_opens ! tt s rb ro (λ h seen kept la lf fs.
     let ws : List ℕ = get_or h.words b [] in let k : ℕ = h.spare in
     let full : length ws ≡ block_words = subst (λ (t : State). length (get_or t.words b []) ≡ block_words) (sym seen) full₀ in
     let used : 0 < length ws = omega (arith, full) in
@@ -105,8 +105,8 @@ let_go_spec 𝓤 𝓛 𝓜 𝓡 wired =
     use2 𝓛 (‵ (part_at (Array u32 block_count) full_share (set h.free k b) rb (ro + free_at))) (put_in 𝓛 u32 tt block_count h.free k b rb (ro + free_at) kl lf') $
     move ! (1 ∷ 2 ∷ 5 ∷ []) $ block_gone ! h.at h.words b rb (ro + 0) bb oo bl la e $
     let keeps = released_keeps h.words h.free k kept b full lf in
-    let h' : Inside = record h { free = set h.free k b; spare = k + 1; words = set h.words b []; sized = keeps.sized; counts = keeps.counts; valid = keeps.valid; unheld = keeps.unheld; distinct = keeps.distinct } in
-    move ! (0 ∷ 1 ∷ 2 ∷ 5 ∷ 6 ∷ 7 ∷ 8 ∷ 9 ∷ []) $ heap_closes ! tt h' rb ro $
+    let h' : Inside = record h { free = set h.free k b; spare = k + 1; words = set h.words b [] } in
+    move ! (0 ∷ 1 ∷ 2 ∷ 5 ∷ 6 ∷ 7 ∷ 8 ∷ 9 ∷ []) $ heap_closes ! tt h' keeps rb ro $
     -- [two parts of self; the token of its lifetime; the words; the right to free them; self's first part; the handle]
     first ! $ blocks ! $
     let k = triple_of 𝓛 (callee.signature Words Handle ghosts dict (no_drop Handle)) (callee.spec Words Handle ghosts dict (no_drop Handle) 𝓛 𝓜.mem 𝓡.returns) in

@@ -2,7 +2,7 @@ use Rattle.std.proofs.Common.{◌≡◌, [], length, get_or, sym, subst}
 use Rattle.heap.specs.Sizes.{block_words}
 use Rattle.heap.specs.State.{State}
 use Rattle.heap.proofs.Turns.{released_is}
-use Rattle.heap.proofs.HeapBlocks.release.Goals as goal
+use Rattle.heap.proofs.ground.HeapBlocks.release.Goals as goal
 
 pub returns : goal.returns
 returns c =

@@ -37,7 +37,7 @@ pub number_digits : (bs : List ℕ) (n : ℕ) → number bs ≡ Some n → all_a
 number_digits [] n e = refl
 number_digits (c ∷ cs) n e = of_digits (all_ascii_digits (c ∷ cs)) (ltb (digits_value 10 (c ∷ cs)) (2 ^ 64)) (digits_value 10 (c ∷ cs)) n e
 
--- three numbers before it are the most that a last one may have: no entry of the table has four
+-- no entry of the table has four numbers or more
 too_many : (w : List ℕ) (a b : ℕ) (x y : Option ℕ) (z : Option (List ℕ)) → meant w (both (Some a) (both (Some b) (both x (both y z)))) ≡ None
 too_many w a b None y z = refl
 too_many w a b (Some x) None z = refl

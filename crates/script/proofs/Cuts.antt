@@ -1,5 +1,5 @@
--- A text that is cut at its first space.
-use Rattle.std.proofs.Common.{◌≡◌, ℕ, suc, ◌<◌, Bool, true, false, cond, eqb, ◌⊎◌, List, [], ◌∷◌, ◌++◌, length, get_or, Some, None, Option, refl, ap, ◌∙◌, inl, inr, arith, Bor, ne_eqb, MatchOption}
+-- A text that is cut at its first space, and the words put together again.
+use Rattle.std.proofs.Common.{◌≡◌, ℕ, suc, ◌<◌, Bool, true, false, cond, eqb, List, [], ◌∷◌, ◌++◌, length, get_or, Some, None, Option, refl, ap, ◌∙◌, arith, Bor, ne_eqb, eqb-true, MatchOption}
 use Rattle.std.proofs.lemmas.Str.Pattern.{IsSplitOnceResult, split_parts}
 use Rattle.script.specs.Lines.{words, onto}
 
@@ -28,28 +28,19 @@ cut_words bs (Some p) h =
     let k = split_parts 32 bs (Some p) h (omega arith) in
     ap words k.0 ∙ words_cut p.0.now p.1.now k.1
 
--- two words or more
-abbrev pub Several : List (List ℕ) → Type 0
-Several [] = ⊥
-Several (w ∷ []) = ⊥
-Several (w ∷ v ∷ vs) = Unit {0}
+-- each word after a space
+abbrev pub joined : List (List ℕ) → List ℕ
+joined [] = []
+joined (w ∷ ws) = 32 ∷ (w ++ joined ws)
 
-several_more : (ws : List (List ℕ)) → Several ws → Several ([] ∷ ws)
-several_more [] s = absurd s
-several_more (w ∷ ws) s = tt
+joined_onto : (c : ℕ) (cs : List ℕ) (ws : List (List ℕ)) → joined ws ≡ 32 ∷ cs → joined (onto c ws) ≡ 32 ∷ (c ∷ cs)
+joined_onto c cs [] e = cc
+joined_onto c cs (w ∷ ws) e = cc
 
-several_onto : (c : ℕ) (ws : List (List ℕ)) → Several ws → Several (onto c ws)
-several_onto c [] s = absurd s
-several_onto c (w ∷ []) s = absurd s
-several_onto c (w ∷ v ∷ vs) s = tt
+joined_more : (c : ℕ) (cs : List ℕ) (b : Bool) → eqb c 32 ≡ b → joined (words cs) ≡ 32 ∷ cs → joined (cond b ([] ∷ words cs) (onto c (words cs))) ≡ 32 ∷ (c ∷ cs)
+joined_more c cs true t e = let is : c ≡ 32 = eqb-true c 32 t in cc
+joined_more c cs false t e = joined_onto c cs (words cs) e
 
-one_more : (c : ℕ) (cs : List ℕ) (b : Bool) → (words cs ≡ cs ∷ []) ⊎ Several (words cs)
-    → (cond b ([] ∷ words cs) (onto c (words cs)) ≡ (c ∷ cs) ∷ []) ⊎ Several (cond b ([] ∷ words cs) (onto c (words cs)))
-one_more c cs true (inl e) = inr (rw e tt)
-one_more c cs true (inr s) = inr (several_more (words cs) s)
-one_more c cs false (inl e) = inl (rw e)
-one_more c cs false (inr s) = inr (several_onto c (words cs) s)
-
-pub one_or_several : (bs : List ℕ) → (words bs ≡ bs ∷ []) ⊎ Several (words bs)
-one_or_several [] = inl refl
-one_or_several (c ∷ cs) = one_more c cs (eqb c 32) (one_or_several cs)
+pub joined_words : (bs : List ℕ) → joined (words bs) ≡ 32 ∷ bs
+joined_words [] = refl
+joined_words (c ∷ cs) = joined_more c cs (eqb c 32) refl (joined_words cs)

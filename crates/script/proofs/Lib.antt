@@ -1,4 +1,3 @@
-pub mod Tables
 pub mod Cuts
 pub mod Figures
 pub mod Texts

@@ -1,25 +1,19 @@
 -- What is written of a line, cut into its words and read again.
-use Rattle.std.proofs.Common.{◌≡◌, ℕ, zero, suc, ◌-◌, ◌^◌, ◌<◌, min, Bool, true, false, not, ◌&&◌, eqb, List, [], ◌∷◌, ◌++◌, map, length, Some, codes, decimal, refl, ap, ◌∙◌, append-nil, arith, lt-ltb}
+use Rattle.std.proofs.Common.{◌≡◌, ℕ, ◌-◌, ◌^◌, ◌<◌, min, true, List, [], ◌∷◌, ◌++◌, map, Some, codes, decimal, refl, ap, ◌∙◌, append-nil, arith}
 use native.Mathlib.Nat.{min-eq_left}
-use borrow.Author.Tests.{clash, eqb-false}
-use Rattle.std.specs.Str.Parse.{digits_value}
-use Rattle.std.specs.List.{AllByRecursion as All}
-use Rattle.std.specs.Str.{all_ascii_digits}
+use Rattle.std.specs.Char.{is_ascii_lowercase}
+use Rattle.std.specs.List.{list_all, AllByRecursion as All}
+use Rattle.std.proofs.lemmas.List.Sums.{AllPass-from_list_all}
 use Rattle.std.proofs.lemmas.Fmt.{digits_decimal, digits_value-decimal, decimal_nonempty}
 use Rattle.things.specs.declared.Op.TheVariants.{Row, Table, Free, Length, At, Set, Insert, Delete, Split, Join, Put, Get, Drop, Least, Count, Nth, Cut, Merge}
-use Rattle.script.specs.declared.line.Line.{Line}
 use Rattle.script.specs.declared.line.Line.TheVariants.{Call, Refuse, Room, Held}
 use Rattle.script.specs.Lines.{words, number, numbers, found, table, meant, asked, line_of}
 use Rattle.script.specs.Back.{spaced, Name, Word, ReadsBack}
 use Rattle.script.proofs.Cuts.{Whole, words_one, words_cut}
-use Rattle.script.proofs.Figures.{own, digits_whole}
-
-number_of : (bs : List ℕ) (n : ℕ) → all_ascii_digits bs ≡ true → digits_value 10 bs ≡ n → 0 < length bs → n < 2 ^ 64 → number bs ≡ Some n
-number_of [] n d v l s = absurd (omega arith)
-number_of (c ∷ cs) n d v l s = rw (d, v, lt-ltb n (2 ^ 64) s)
+use Rattle.script.proofs.Figures.{own, number_of, digits_whole}
 
 number_decimal : (n : ℕ) → n < 2 ^ 64 → number (decimal n) ≡ Some n
-number_decimal n s = number_of (decimal n) n (digits_decimal own n s) (digits_value-decimal own n s) (decimal_nonempty n s) s
+number_decimal n s = let v = digits_value-decimal own n s in number_of (decimal n) (digits_decimal own n s) (decimal_nonempty n s) (rw v s) ∙ ap (λ (m : ℕ). Some m) v
 
 decimal_whole : (n : ℕ) → n < 2 ^ 64 → Whole (decimal n)
 decimal_whole n s = digits_whole (decimal n) (digits_decimal own n s)
@@ -33,66 +27,40 @@ numbers_decimal : (ns : List ℕ) → All Word ns → numbers (map decimal ns) �
 numbers_decimal [] a = refl
 numbers_decimal (n ∷ ns) a = rw (number_decimal n a.0, numbers_decimal ns a.1)
 
--- a keyword has no space
-abbrev solid : List ℕ → Bool
-solid [] = true
-solid (c ∷ cs) = not (eqb c 32) && solid cs
-
-split_test : (b s : Bool) → (not b && s) ≡ true → (b ≡ false) × (s ≡ true)
-split_test true s e = absurd (clash e)
-split_test false s e = (refl, e)
-
-solid_whole : (w : List ℕ) → solid w ≡ true → Whole w
-solid_whole [] e i l h = omega arith
-solid_whole (c ∷ cs) e zero l h = eqb-false c 32 (split_test (eqb c 32) (solid cs) e).0 h
-solid_whole (c ∷ cs) e (suc i) l h = solid_whole cs (split_test (eqb c 32) (solid cs) e).1 i (omega arith) h
+-- a keyword has letters alone, so no space
+letters_whole : (w : List ℕ) → list_all is_ascii_lowercase w ≡ true → Whole w
+letters_whole w e i l h = let k = rw h at (AllPass-from_list_all is_ascii_lowercase w e i 0 l) in cc
 
 -- a keyword and its numbers come out of the text as they went in
-line_back : (w ns : List ℕ) → solid w ≡ true → All Word ns → line_of (w ++ spaced ns) ≡ found table w ns
-line_back w ns h a = ap asked (words_spaced w ns (solid_whole w h) a) ∙ ap (meant w) (numbers_decimal ns a)
+line_back : (w ns : List ℕ) → list_all is_ascii_lowercase w ≡ true → All Word ns → line_of (w ++ spaced ns) ≡ found table w ns
+line_back w ns h a = ap asked (words_spaced w ns (letters_whole w h) a) ∙ ap (meant w) (numbers_decimal ns a)
 
 -- a name that fits stays as it is, and is a word
 kept : (n : ℕ) → Name n → min n (2 ^ 32 - 1) ≡ n
 kept n h = min-eq_left (omega arith)
 
-one : (w : List ℕ) (n : ℕ) (f : ℕ → Line) → solid w ≡ true → found table w (n ∷ []) ≡ Some (f (min n (2 ^ 32 - 1))) → Name n → line_of (w ++ spaced (n ∷ [])) ≡ Some (f n)
-one w n f s t h = line_back w (n ∷ []) s (omega arith, tt) ∙ t ∙ ap (λ (m : ℕ). Some (f m)) (kept n h)
-
-two : (w : List ℕ) (n i : ℕ) (f : ℕ → ℕ → Line) → solid w ≡ true → found table w (n ∷ i ∷ []) ≡ Some (f (min n (2 ^ 32 - 1)) i) → Name n → Word i
-    → line_of (w ++ spaced (n ∷ i ∷ [])) ≡ Some (f n i)
-two w n i f s t h k = line_back w (n ∷ i ∷ []) s (omega arith, (k, tt)) ∙ t ∙ ap (λ (m : ℕ). Some (f m i)) (kept n h)
-
-three : (w : List ℕ) (n i x : ℕ) (f : ℕ → ℕ → ℕ → Line) → solid w ≡ true → found table w (n ∷ i ∷ x ∷ []) ≡ Some (f (min n (2 ^ 32 - 1)) i x) → Name n → Word i → Word x
-    → line_of (w ++ spaced (n ∷ i ∷ x ∷ [])) ≡ Some (f n i x)
-three w n i x f s t h k l = line_back w (n ∷ i ∷ x ∷ []) s (omega arith, (k, (l, tt))) ∙ t ∙ ap (λ (m : ℕ). Some (f m i x)) (kept n h)
-
--- with a second name, at the end
-named : (n : ℕ) (f : ℕ → Line) → Name n → Some (f (min n (2 ^ 32 - 1))) ≡ Some (f n)
-named n f h = ap (λ (m : ℕ). Some (f m)) (kept n h)
+word : (n : ℕ) → Name n → Word n
+word n h = omega arith
 
 pub reads_back : ReadsBack
-reads_back (Call (Row n)) h = one (codes "row") n (λ n. Call (Row n)) refl refl h
-reads_back (Call (Table n)) h = one (codes "table") n (λ n. Call (Table n)) refl refl h
-reads_back (Call (Free n)) h = one (codes "free") n (λ n. Call (Free n)) refl refl h
-reads_back (Call (Length n)) h = one (codes "length") n (λ n. Call (Length n)) refl refl h
-reads_back (Call (At n i)) h = two (codes "at") n i (λ n i. Call (At n i)) refl refl h.0 h.1
-reads_back (Call (Set n i x)) h = three (codes "set") n i x (λ n i x. Call (Set n i x)) refl refl h.0 h.1 h.2
-reads_back (Call (Insert n i x)) h = three (codes "insert") n i x (λ n i x. Call (Insert n i x)) refl refl h.0 h.1 h.2
-reads_back (Call (Delete n i)) h = two (codes "delete") n i (λ n i. Call (Delete n i)) refl refl h.0 h.1
-reads_back (Call (Split n i m)) h =
-    three (codes "split") n i m (λ n i m. Call (Split n i (min m (2 ^ 32 - 1)))) refl refl h.0 h.1 (omega arith) ∙ named m (λ m. Call (Split n i m)) h.2
-reads_back (Call (Join n m)) h =
-    two (codes "join") n m (λ n m. Call (Join n (min m (2 ^ 32 - 1)))) refl refl h.0 (omega arith) ∙ named m (λ m. Call (Join n m)) h.1
-reads_back (Call (Put n k x)) h = three (codes "put") n k x (λ n k x. Call (Put n k x)) refl refl h.0 h.1 h.2
-reads_back (Call (Get n k)) h = two (codes "get") n k (λ n k. Call (Get n k)) refl refl h.0 h.1
-reads_back (Call (Drop n k)) h = two (codes "drop") n k (λ n k. Call (Drop n k)) refl refl h.0 h.1
-reads_back (Call (Least n k)) h = two (codes "least") n k (λ n k. Call (Least n k)) refl refl h.0 h.1
-reads_back (Call (Count n k)) h = two (codes "count") n k (λ n k. Call (Count n k)) refl refl h.0 h.1
-reads_back (Call (Nth n i)) h = two (codes "nth") n i (λ n i. Call (Nth n i)) refl refl h.0 h.1
-reads_back (Call (Cut n k m)) h =
-    three (codes "cut") n k m (λ n k m. Call (Cut n k (min m (2 ^ 32 - 1)))) refl refl h.0 h.1 (omega arith) ∙ named m (λ m. Call (Cut n k m)) h.2
-reads_back (Call (Merge n m)) h =
-    two (codes "merge") n m (λ n m. Call (Merge n (min m (2 ^ 32 - 1)))) refl refl h.0 (omega arith) ∙ named m (λ m. Call (Merge n m)) h.1
+reads_back (Call (Row n)) h = rw (line_back (codes "row") (n ∷ []) refl (word n h, tt), kept n h)
+reads_back (Call (Table n)) h = rw (line_back (codes "table") (n ∷ []) refl (word n h, tt), kept n h)
+reads_back (Call (Free n)) h = rw (line_back (codes "free") (n ∷ []) refl (word n h, tt), kept n h)
+reads_back (Call (Length n)) h = rw (line_back (codes "length") (n ∷ []) refl (word n h, tt), kept n h)
+reads_back (Call (At n i)) h = rw (line_back (codes "at") (n ∷ i ∷ []) refl (word n h.0, (h.1, tt)), kept n h.0)
+reads_back (Call (Set n i x)) h = rw (line_back (codes "set") (n ∷ i ∷ x ∷ []) refl (word n h.0, (h.1, (h.2, tt))), kept n h.0)
+reads_back (Call (Insert n i x)) h = rw (line_back (codes "insert") (n ∷ i ∷ x ∷ []) refl (word n h.0, (h.1, (h.2, tt))), kept n h.0)
+reads_back (Call (Delete n i)) h = rw (line_back (codes "delete") (n ∷ i ∷ []) refl (word n h.0, (h.1, tt)), kept n h.0)
+reads_back (Call (Split n i m)) h = rw (line_back (codes "split") (n ∷ i ∷ m ∷ []) refl (word n h.0, (h.1, (word m h.2, tt))), kept n h.0, kept m h.2)
+reads_back (Call (Join n m)) h = rw (line_back (codes "join") (n ∷ m ∷ []) refl (word n h.0, (word m h.1, tt)), kept n h.0, kept m h.1)
+reads_back (Call (Put n i x)) h = rw (line_back (codes "put") (n ∷ i ∷ x ∷ []) refl (word n h.0, (h.1, (h.2, tt))), kept n h.0)
+reads_back (Call (Get n i)) h = rw (line_back (codes "get") (n ∷ i ∷ []) refl (word n h.0, (h.1, tt)), kept n h.0)
+reads_back (Call (Drop n i)) h = rw (line_back (codes "drop") (n ∷ i ∷ []) refl (word n h.0, (h.1, tt)), kept n h.0)
+reads_back (Call (Least n i)) h = rw (line_back (codes "least") (n ∷ i ∷ []) refl (word n h.0, (h.1, tt)), kept n h.0)
+reads_back (Call (Count n i)) h = rw (line_back (codes "count") (n ∷ i ∷ []) refl (word n h.0, (h.1, tt)), kept n h.0)
+reads_back (Call (Nth n i)) h = rw (line_back (codes "nth") (n ∷ i ∷ []) refl (word n h.0, (h.1, tt)), kept n h.0)
+reads_back (Call (Cut n i m)) h = rw (line_back (codes "cut") (n ∷ i ∷ m ∷ []) refl (word n h.0, (h.1, (word m h.2, tt))), kept n h.0, kept m h.2)
+reads_back (Call (Merge n m)) h = rw (line_back (codes "merge") (n ∷ m ∷ []) refl (word n h.0, (word m h.1, tt)), kept n h.0, kept m h.1)
 reads_back (Refuse k) h = line_back (codes "refuse") (k ∷ []) refl (h, tt)
 reads_back (Room n) h = line_back (codes "room") (n ∷ []) refl (h, tt)
 reads_back Held h = line_back (codes "held") [] refl tt

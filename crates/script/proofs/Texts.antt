@@ -1,95 +1,65 @@
 -- A line is text: each byte of it is a keyword's, a digit or a space.
-use Rattle.std.proofs.Common.{◌≡◌, ℕ, zero, suc, Bool, true, false, cond, ◌&&◌, eqb, ltb, List, [], ◌∷◌, Some, None, IsUtf8, IsAscii, Decides, Option, refl, ap, ◌∙◌, arith, ltb-true, lt-ltb, eqb-true}
-use borrow.Author.Tests.{clash}
-use Rattle.std.specs.Char.{is_ascii_digit}
-use Rattle.std.specs.Str.{all_ascii_digits, bytes_eq}
-use Rattle.std.proofs.lemmas.Slice.Eq.{bytes_eq-Decides}
-use Rattle.std.proofs.lemmas.Str.{IsUtf8-from_ascii}
+use Rattle.std.proofs.Common.{◌≡◌, ℕ, suc, ◌<◌, Bool, true, false, cond, ◌&&◌, List, [], ◌∷◌, ◌++◌, get_or, Some, None, IsUtf8, IsAscii, Decides, Option, refl, arith}
+use Rattle.std.specs.Char.{is_ascii_lowercase}
+use Rattle.std.specs.List.{list_all}
+use Rattle.std.specs.Str.{bytes_eq}
+use Rattle.std.proofs.lemmas.Bool.{and_parts}
 use Rattle.std.proofs.lemmas.Bool.Decides.{nat_tests}
+use Rattle.std.proofs.lemmas.Fmt.{IsAscii-from_digits}
+use Rattle.std.proofs.lemmas.List.Sums.{AllPass-from_list_all}
+use Rattle.std.proofs.lemmas.Slice.Eq.{bytes_eq-Decides}
+use Rattle.std.proofs.lemmas.Str.{IsAscii-append, IsUtf8-from_ascii}
+use Rattle.std.proofs.lemmas.Str.Ascii.{IsAscii-nil, IsAscii-cons, IsAscii-from_all}
 use Rattle.script.specs.declared.line.Line.{Line}
-use Rattle.script.specs.Lines.{Entry, words, onto, number, numbers, both, many, found, table, meant, asked, line_of}
-use Rattle.script.proofs.Figures.{number_digits}
+use Rattle.script.specs.Lines.{Entry, words, number, numbers, both, many, found, table, meant, asked, line_of}
+use Rattle.script.proofs.Cuts.{joined, joined_words}
+use Rattle.script.proofs.Figures.{own, number_digits}
 
--- each byte below 128
-abbrev low : List ℕ → Bool
-low [] = true
-low (c ∷ cs) = ltb c 128 && low cs
+after_space : (w r : List ℕ) → IsAscii w → IsAscii r → IsAscii (32 ∷ (w ++ r))
+after_space w r h k = IsAscii-cons 32 (w ++ r) (omega arith) (IsAscii-append w r h k)
 
-abbrev all_low : List (List ℕ) → Bool
-all_low [] = true
-all_low (w ∷ ws) = low w && all_low ws
+numbers_ascii_by : (w : List ℕ) (ws : List (List ℕ)) (x : Option ℕ) (y : Option (List ℕ)) (a : List ℕ) → number w ≡ x → numbers ws ≡ y
+    → ((b : List ℕ) → numbers ws ≡ Some b → IsAscii (joined ws)) → both x y ≡ Some a → IsAscii (32 ∷ (w ++ joined ws))
+numbers_ascii_by w ws None y a p q k e = absurd cc
+numbers_ascii_by w ws (Some x) None a p q k e = absurd cc
+numbers_ascii_by w ws (Some x) (Some y) a p q k e = after_space w (joined ws) (IsAscii-from_digits w (own.to w (number_digits w x p))) (k y q)
 
-abbrev keys_low : List Entry → Bool
-keys_low [] = true
-keys_low (e ∷ es) = low e.word && keys_low es
+numbers_ascii : (ws : List (List ℕ)) (a : List ℕ) → numbers ws ≡ Some a → IsAscii (joined ws)
+numbers_ascii [] a e = IsAscii-nil
+numbers_ascii (w ∷ ws) a e = numbers_ascii_by w ws (number w) (numbers ws) a refl refl (numbers_ascii ws) e
 
-both_true : (b s : Bool) → (b && s) ≡ true → (b ≡ true) × (s ≡ true)
-both_true true s e = (refl, e)
-both_true false s e = absurd (clash e)
+letter_low : (c : ℕ) → is_ascii_lowercase c ≡ true → c < 128
+letter_low c e = grind (arith, nat_tests)
 
-from_both : (b s : Bool) → b ≡ true → s ≡ true → (b && s) ≡ true
-from_both b s p q = rw (p, q)
+letters_ascii : (w : List ℕ) → list_all is_ascii_lowercase w ≡ true → IsAscii w
+letters_ascii w e = IsAscii-from_all w (λ k d l. letter_low (get_or w k d) (AllPass-from_list_all is_ascii_lowercase w e k d l))
 
-ascii : (bs : List ℕ) → low bs ≡ true → IsAscii bs
-ascii [] e i = omega arith
-ascii (c ∷ cs) e zero = ltb-true c 128 (both_true (ltb c 128) (low cs) e).0
-ascii (c ∷ cs) e (suc i) = ascii cs (both_true (ltb c 128) (low cs) e).1 i
+found_ascii_by : (e : Entry) (w : List ℕ) (b s : Bool) (x : Line) (y : Option Line) (l : Line) → Decides s (w ≡ e.word) → IsAscii e.word → (y ≡ Some l → IsAscii w)
+    → cond (b && s) (Some x) y ≡ Some l → IsAscii w
+found_ascii_by e w true true x y l d p k h = rw (d.0 refl) p
+found_ascii_by e w true false x y l d p k h = k h
+found_ascii_by e w false s x y l d p k h = k h
 
-digit_low : (c : ℕ) → is_ascii_digit c ≡ true → ltb c 128 ≡ true
-digit_low c e = grind (arith, nat_tests)
+found_ascii : (es : List Entry) (w a : List ℕ) (l : Line) → list_all (λ (e : Entry). list_all is_ascii_lowercase e.word) es ≡ true → found es w a ≡ Some l → IsAscii w
+found_ascii [] w a l p h = absurd cc
+found_ascii (e ∷ es) w a l p h =
+    let q = and_parts (list_all is_ascii_lowercase e.word) (list_all (λ (e : Entry). list_all is_ascii_lowercase e.word) es) p in
+    found_ascii_by e w (many e.count a) (bytes_eq w e.word) (e.line a) (found es w a) l (bytes_eq-Decides w e.word) (letters_ascii e.word q.0) (found_ascii es w a l q.1) h
 
-digits_low : (bs : List ℕ) → all_ascii_digits bs ≡ true → low bs ≡ true
-digits_low [] e = refl
-digits_low (c ∷ cs) e = let k = both_true (is_ascii_digit c) (all_ascii_digits cs) e in from_both (ltb c 128) (low cs) (digit_low c k.0) (digits_low cs k.1)
+meant_ascii : (w : List ℕ) (ws : List (List ℕ)) (o : Option (List ℕ)) (l : Line) → numbers ws ≡ o → meant w o ≡ Some l → IsAscii (joined (w ∷ ws))
+meant_ascii w ws None l p h = absurd cc
+meant_ascii w ws (Some a) l p h = after_space w (joined ws) (found_ascii table w a l refl h) (numbers_ascii ws a p)
 
-onto_low : (c : ℕ) (cs : List ℕ) (ws : List (List ℕ)) → (all_low ws ≡ true → low cs ≡ true) → all_low (onto c ws) ≡ true → (ltb c 128 && low cs) ≡ true
-onto_low c cs [] k e = let p = (both_true (ltb c 128 && true) true e).0 in from_both (ltb c 128) (low cs) (both_true (ltb c 128) true p).0 (k refl)
-onto_low c cs (w ∷ ws) k e =
-    let p = both_true (ltb c 128 && low w) (all_low ws) e in
-    let q = both_true (ltb c 128) (low w) p.0 in
-    from_both (ltb c 128) (low cs) q.0 (k (from_both (low w) (all_low ws) q.1 p.1))
+asked_ascii : (ws : List (List ℕ)) (l : Line) → asked ws ≡ Some l → IsAscii (joined ws)
+asked_ascii [] l h = IsAscii-nil
+asked_ascii (w ∷ ws) l h = meant_ascii w ws (numbers ws) l refl h
 
-words_low_by : (c : ℕ) (cs : List ℕ) (b : Bool) → eqb c 32 ≡ b → (all_low (words cs) ≡ true → low cs ≡ true) → all_low (cond b ([] ∷ words cs) (onto c (words cs))) ≡ true → (ltb c 128 && low cs) ≡ true
-words_low_by c cs true t k e = let is : c ≡ 32 = eqb-true c 32 t in from_both (ltb c 128) (low cs) (lt-ltb c 128 (omega arith)) (k e)
-words_low_by c cs false t k e = onto_low c cs (words cs) k e
-
-words_low : (bs : List ℕ) → all_low (words bs) ≡ true → low bs ≡ true
-words_low [] e = refl
-words_low (c ∷ cs) e = words_low_by c cs (eqb c 32) refl (words_low cs) e
-
-numbers_low_by : (w : List ℕ) (ws : List (List ℕ)) (x : Option ℕ) (y : Option (List ℕ)) (a : List ℕ) → number w ≡ x → numbers ws ≡ y
-    → ((b : List ℕ) → numbers ws ≡ Some b → all_low ws ≡ true) → both x y ≡ Some a → (low w && all_low ws) ≡ true
-numbers_low_by w ws None y a p q k e = let z : ◌≡◌ {A = ℕ} 0 1 = cc in absurd (omega arith)
-numbers_low_by w ws (Some x) None a p q k e = let z : ◌≡◌ {A = ℕ} 0 1 = cc in absurd (omega arith)
-numbers_low_by w ws (Some x) (Some y) a p q k e = from_both (low w) (all_low ws) (digits_low w (number_digits w x p)) (k y q)
-
-numbers_low : (ws : List (List ℕ)) (a : List ℕ) → numbers ws ≡ Some a → all_low ws ≡ true
-numbers_low [] a e = refl
-numbers_low (w ∷ ws) a e = numbers_low_by w ws (number w) (numbers ws) a refl refl (numbers_low ws) e
-
-found_low_by : (e : Entry) (w : List ℕ) (b s : Bool) (x : Line) (y : Option Line) (l : Line) → Decides s (w ≡ e.word) → low e.word ≡ true → (y ≡ Some l → low w ≡ true)
-    → cond (b && s) (Some x) y ≡ Some l → low w ≡ true
-found_low_by e w true true x y l d p k h = ap low (d.0 refl) ∙ p
-found_low_by e w true false x y l d p k h = k h
-found_low_by e w false s x y l d p k h = k h
-
-found_low : (es : List Entry) (w a : List ℕ) (l : Line) → keys_low es ≡ true → found es w a ≡ Some l → low w ≡ true
-found_low [] w a l p h = let z : ◌≡◌ {A = ℕ} 0 1 = cc in absurd (omega arith)
-found_low (e ∷ es) w a l p h =
-    let q = both_true (low e.word) (keys_low es) p in
-    found_low_by e w (many e.count a) (bytes_eq w e.word) (e.line a) (found es w a) l (bytes_eq-Decides w e.word) q.0 (found_low es w a l q.1) h
-
-meant_low : (w : List ℕ) (ws : List (List ℕ)) (o : Option (List ℕ)) (l : Line) → numbers ws ≡ o → meant w o ≡ Some l → (low w && all_low ws) ≡ true
-meant_low w ws None l p h = let z : ◌≡◌ {A = ℕ} 0 1 = cc in absurd (omega arith)
-meant_low w ws (Some a) l p h = from_both (low w) (all_low ws) (found_low table w a l refl h) (numbers_low ws a p)
-
-asked_low : (ws : List (List ℕ)) (l : Line) → asked ws ≡ Some l → all_low ws ≡ true
-asked_low [] l h = refl
-asked_low (w ∷ ws) l h = meant_low w ws (numbers ws) l refl h
+line_ascii : (bs : List ℕ) (l : Line) → line_of bs ≡ Some l → IsAscii bs
+line_ascii bs l h = let k = rw (joined_words bs) at (asked_ascii (words bs) l h) in λ i. k (suc i)
 
 not_some : (bs : List ℕ) (o : Option Line) → line_of bs ≡ o → (IsUtf8 bs → ⊥) → None ≡ o
 not_some bs None e n = refl
-not_some bs (Some l) e n = absurd (n (IsUtf8-from_ascii bs (ascii bs (words_low bs (asked_low (words bs) l e)))))
+not_some bs (Some l) e n = absurd (n (IsUtf8-from_ascii bs (line_ascii bs l e)))
 
 -- what is not text is not a line
 pub not_text : (bs : List ℕ) → (IsUtf8 bs → ⊥) → None ≡ line_of bs

@@ -1,4 +1,3 @@
 pub mod Lines
-pub mod Parts
 pub mod Replies
 pub mod Back

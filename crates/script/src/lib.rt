@@ -8,11 +8,12 @@ mod read;
 mod reply;
 mod table;
 
-pub use line::Line;
+pub use line::{Line, NotALine};
 pub use read::parse;
 pub use reply::{Reply, write};
 
 // What is written of a line is read back as that line.
+#[tactic(auto, using(crate::proofs::Returns::reads_back))]
 pub fn lines_read_back() -> u8
     ensures { ReadsBack }
 {

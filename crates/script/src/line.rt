@@ -8,3 +8,7 @@ pub enum Line {
     Room(u64),
     Held,
 }
+
+// Why a text is no line: no keyword of the table with so many numbers stands there.
+#[derive(Clone, Copy, Debug, PartialEq, Eq)]
+pub struct NotALine;

@@ -1,18 +1,11 @@
 // A line of text to what it asks.
 ghost use Rattle.std.specs.Prelude.{◌≡◌, [], ◌∷◌, MatchOption};
+ghost use Rattle.std.specs.Result.{result_ok};
 ghost use Rattle.script.specs.Lines.{words, number, line_of};
-ghost use Rattle.script.specs.Parts.{Argues, Reads};
 
-use crate::line::Line;
-use crate::table::{with_none, with_one, with_three, with_two};
-
-// The numbers after a keyword.
-#[derive(Clone, Copy)]
-enum Args {
-    One(u64),
-    Two(u64, u64),
-    Three(u64, u64, u64),
-}
+use crate::line::{Line, NotALine};
+use crate::table::asked;
+use std::str::FromStr;
 
 // The first word and what follows its space, if there is one.
 fn cut(text: &str) -> Option<(&str, &str)>
@@ -21,52 +14,55 @@ fn cut(text: &str) -> Option<(&str, &str)>
     text.split_once(' ')
 }
 
-// A number, which may have a plus sign before it.
-fn signed(text: &str) -> Option<u64>
-    ensures { Reads text.now result }
-{
-    match text.parse::<u64>() {
-        Ok(n) => Some(n),
-        Err(_) => None, // not a number, or too large
-    }
-}
-
 // A number: digits alone, with no sign.
 fn number(text: &str) -> Option<u64>
     ensures { result ≡ number text.now }
 {
     if text.starts_with('+') {
-        None
-    } else {
-        signed(text)
+        return None;
     }
+    text.parse().ok()
 }
 
-fn arguments(text: &str) -> Option<Args>
-    ensures { Argues text.now result }
-{
-    let Some((first, rest)) = cut(text) else {
-        return Some(Args::One(number(text)?));
-    };
-    let a = number(first)?;
-    let Some((second, third)) = cut(rest) else {
-        return Some(Args::Two(a, number(rest)?));
-    };
-    let b = number(second)?;
-    // a fourth word would leave a space in what is read here
-    Some(Args::Three(a, b, number(third)?))
-}
-
+#[tactic(auto, using(crate::proofs::Figures::as_one))]
 fn line(text: &str) -> Option<Line>
     ensures { result ≡ line_of text.now }
 {
     let Some((word, rest)) = cut(text) else {
-        return with_none(text);
+        return asked(text, &[]);
     };
-    match arguments(rest)? {
-        Args::One(a) => with_one(word, a),
-        Args::Two(a, b) => with_two(word, a, b),
-        Args::Three(a, b, c) => with_three(word, a, b, c),
+    let Some((first, after)) = cut(rest) else {
+        return asked(word, &[number(rest)?]);
+    };
+    let Some((second, third)) = cut(after) else {
+        return asked(word, &[number(first)?, number(after)?]);
+    };
+    // a fourth word would leave a space in what is read here
+    asked(word, &[number(first)?, number(second)?, number(third)?])
+}
+
+impl FromStr for Line {
+    type Err = NotALine;
+
+    ghost from_str_gives = { λ text r. result_ok r ≡ line_of text };
+
+    fn from_str(text: &str) -> Result<Line, NotALine> {
+        line(text).ok_or(NotALine)
+    }
+}
+
+// The bytes of a line, without their end of line.
+impl TryFrom<&[u8]> for Line {
+    type Error = NotALine;
+
+    ghost try_from_gives = { λ text r. result_ok r ≡ line_of text.now };
+
+    #[tactic(auto, using(crate::proofs::Texts::not_text))]
+    fn try_from(text: &[u8]) -> Result<Line, NotALine> {
+        match std::str::from_utf8(text) {
+            Ok(text) => text.parse(),
+            Err(_) => Err(NotALine),
+        }
     }
 }
 
@@ -74,8 +70,5 @@ fn line(text: &str) -> Option<Line>
 pub fn parse(text: &[u8]) -> Option<Line>
     ensures { result ≡ line_of text.now }
 {
-    match std::str::from_utf8(text) {
-        Ok(text) => line(text),
-        Err(_) => None,
-    }
+    Line::try_from(text).ok()
 }

@@ -34,8 +34,5 @@ impl fmt::Display for Reply {
 pub fn write(out: &mut String, reply: Reply) -> Result<(), AllocError>
     ensures { OnOk result (string_bytes out.new ≡ string_bytes out.old ++ text_of reply) }
 {
-    match write!(out, "{reply}") {
-        Ok(()) => Ok(()),
-        Err(_) => Err(AllocError),
-    }
+    write!(out, "{reply}").map_err(|_| AllocError)
 }

@@ -1,5 +1,5 @@
 // A keyword and its numbers to what they ask.
-ghost use Rattle.std.specs.Prelude.{◌≡◌, ◌-◌, ◌^◌, min, [], ◌∷◌};
+ghost use Rattle.std.specs.Prelude.{◌≡◌, ◌-◌, ◌^◌, min};
 ghost use Rattle.script.specs.Lines.{found, table};
 
 use crate::line::Line;
@@ -12,55 +12,31 @@ fn name(n: u64) -> u32
     u32::try_from(n).unwrap_or(u32::MAX)
 }
 
-pub fn with_none(word: &str) -> Option<Line>
-    ensures { result ≡ found table word.now [] }
+pub fn asked(word: &str, numbers: &[u64]) -> Option<Line>
+    ensures { result ≡ found table word.now numbers.now }
 {
-    match word {
-        "held" => Some(Line::Held),
-        _ => None,
-    }
-}
-
-pub fn with_one(word: &str, a: u64) -> Option<Line>
-    ensures { result ≡ found table word.now (a ∷ []) }
-{
-    match word {
-        "row" => Some(Line::Call(Op::Row(name(a)))),
-        "table" => Some(Line::Call(Op::Table(name(a)))),
-        "free" => Some(Line::Call(Op::Free(name(a)))),
-        "length" => Some(Line::Call(Op::Length(name(a)))),
-        "refuse" => Some(Line::Refuse(a)),
-        "room" => Some(Line::Room(a)),
-        _ => None,
-    }
-}
-
-pub fn with_two(word: &str, a: u64, b: u64) -> Option<Line>
-    ensures { result ≡ found table word.now (a ∷ b ∷ []) }
-{
-    match word {
-        "at" => Some(Line::Call(Op::At(name(a), b))),
-        "delete" => Some(Line::Call(Op::Delete(name(a), b))),
-        "join" => Some(Line::Call(Op::Join(name(a), name(b)))),
-        "get" => Some(Line::Call(Op::Get(name(a), b))),
-        "drop" => Some(Line::Call(Op::Drop(name(a), b))),
-        "least" => Some(Line::Call(Op::Least(name(a), b))),
-        "count" => Some(Line::Call(Op::Count(name(a), b))),
-        "nth" => Some(Line::Call(Op::Nth(name(a), b))),
-        "merge" => Some(Line::Call(Op::Merge(name(a), name(b)))),
-        _ => None,
-    }
-}
-
-pub fn with_three(word: &str, a: u64, b: u64, c: u64) -> Option<Line>
-    ensures { result ≡ found table word.now (a ∷ b ∷ c ∷ []) }
-{
-    match word {
-        "set" => Some(Line::Call(Op::Set(name(a), b, c))),
-        "insert" => Some(Line::Call(Op::Insert(name(a), b, c))),
-        "split" => Some(Line::Call(Op::Split(name(a), b, name(c)))),
-        "put" => Some(Line::Call(Op::Put(name(a), b, c))),
-        "cut" => Some(Line::Call(Op::Cut(name(a), b, name(c)))),
+    match (word, numbers) {
+        ("row", &[n]) => Some(Line::Call(Op::Row(name(n)))),
+        ("table", &[n]) => Some(Line::Call(Op::Table(name(n)))),
+        ("free", &[n]) => Some(Line::Call(Op::Free(name(n)))),
+        ("length", &[n]) => Some(Line::Call(Op::Length(name(n)))),
+        ("at", &[n, i]) => Some(Line::Call(Op::At(name(n), i))),
+        ("set", &[n, i, x]) => Some(Line::Call(Op::Set(name(n), i, x))),
+        ("insert", &[n, i, x]) => Some(Line::Call(Op::Insert(name(n), i, x))),
+        ("delete", &[n, i]) => Some(Line::Call(Op::Delete(name(n), i))),
+        ("split", &[n, i, m]) => Some(Line::Call(Op::Split(name(n), i, name(m)))),
+        ("join", &[n, m]) => Some(Line::Call(Op::Join(name(n), name(m)))),
+        ("put", &[n, k, x]) => Some(Line::Call(Op::Put(name(n), k, x))),
+        ("get", &[n, k]) => Some(Line::Call(Op::Get(name(n), k))),
+        ("drop", &[n, k]) => Some(Line::Call(Op::Drop(name(n), k))),
+        ("least", &[n, k]) => Some(Line::Call(Op::Least(name(n), k))),
+        ("count", &[n, k]) => Some(Line::Call(Op::Count(name(n), k))),
+        ("nth", &[n, i]) => Some(Line::Call(Op::Nth(name(n), i))),
+        ("cut", &[n, k, m]) => Some(Line::Call(Op::Cut(name(n), k, name(m)))),
+        ("merge", &[n, m]) => Some(Line::Call(Op::Merge(name(n), name(m)))),
+        ("refuse", &[k]) => Some(Line::Refuse(k)),
+        ("room", &[n]) => Some(Line::Room(n)),
+        ("held", []) => Some(Line::Held),
         _ => None,
     }
 }

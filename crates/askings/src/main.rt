@@ -2,14 +2,12 @@
 #![tactic(auto)]
 
 ghost use Rattle.things.specs.Ground.{AtStart};
-ghost use Rattle.ration.specs.Refusing.{ground_of};
-ghost use Rattle.console.specs.Turns.{Ready};
 
-use console::{ask, close, open};
+use console::{ASKS, Session};
 use lent::{BLOCK_WORDS, Lent};
 use ration::Ration;
 use std::io;
-use things::{Blocks, Bounds, Op, Things};
+use things::{Blocks, Bounds, Op};
 
 mod tally;
 
@@ -23,61 +21,47 @@ const LENGTH: u64 = 10000;
 
 const ROW: u32 = 6;
 
-// What a call may ask at most.
-const ALLOWED: u64 = 16384;
-
 // One call, and how often it asked.
-fn asks_of<B: Blocks + Bounds>(s: &mut Things, b: &mut Ration<B>, o: Op) -> u64
-    requires { Ready s.old (ground_of B.Blocks.as_ground b.old) }
-    ensures { Ready s.new (ground_of B.Blocks.as_ground b.new) }
-{
-    let _a = ask(s, b, o);
-    ALLOWED.saturating_sub(b.asks_left())
+fn asks_of<B: Blocks + Bounds>(session: &mut Session<Ration<B>>, o: Op) -> u64 {
+    let _a = session.ask(o);
+    ASKS.saturating_sub(session.ground().asks_left())
 }
 
-fn inserts<B: Blocks + Bounds>(s: &mut Things, b: &mut Ration<B>) -> Tally
-    requires { Ready s.old (ground_of B.Blocks.as_ground b.old) }
-    ensures { Ready s.new (ground_of B.Blocks.as_ground b.new) }
-{
-    let mut tally = Tally::new();
+fn inserts<B: Blocks + Bounds>(session: &mut Session<Ration<B>>) -> Tally {
+    let mut tally = Tally::default();
     for x in 0..LENGTH {
-        tally.note(asks_of(s, b, Op::Insert(ROW, 0, x)));
+        tally.note(asks_of(session, Op::Insert(ROW, 0, x)));
     }
     tally
 }
 
 // `count` words go, `step` places apart, from `start` on; those that go are `step` apart in what is left.
 fn deletes<B: Blocks + Bounds>(
-    s: &mut Things,
-    b: &mut Ration<B>,
+    session: &mut Session<Ration<B>>,
     start: u64,
     step: u64,
     count: u64,
     tally: &mut Tally,
-)
-    requires { Ready s.old (ground_of B.Blocks.as_ground b.old) }
-    ensures { Ready s.new (ground_of B.Blocks.as_ground b.new) }
-{
+) {
     for j in 0..count {
         let place = start.saturating_add(step.saturating_mul(j));
-        tally.note(asks_of(s, b, Op::Delete(ROW, place)));
+        tally.note(asks_of(session, Op::Delete(ROW, place)));
     }
 }
 
 fn measure<B: Blocks + Bounds + Drop>(rt: &HostRuntime, blocks: B) -> io::Result<()>
     requires { AtStart (B.Blocks.as_ground blocks) }
 {
-    let mut b = Ration::over(blocks);
-    let mut s = open(&b);
-    let row = asks_of(&mut s, &mut b, Op::Row(ROW));
-    let insert = inserts(&mut s, &mut b);
-    let at = asks_of(&mut s, &mut b, Op::At(ROW, LENGTH / 2));
-    let set = asks_of(&mut s, &mut b, Op::Set(ROW, LENGTH / 2, 7));
-    let mut delete = Tally::new();
-    deletes(&mut s, &mut b, LENGTH / 2, 1, LENGTH / 4, &mut delete);
-    deletes(&mut s, &mut b, 0, 1, LENGTH / 4, &mut delete);
-    deletes(&mut s, &mut b, 0, 0, LENGTH / 2, &mut delete);
-    close(s, &mut b);
+    let mut session = Session::open(Ration::over(blocks));
+    let row = asks_of(&mut session, Op::Row(ROW));
+    let insert = inserts(&mut session);
+    let at = asks_of(&mut session, Op::At(ROW, LENGTH / 2));
+    let set = asks_of(&mut session, Op::Set(ROW, LENGTH / 2, 7));
+    let mut delete = Tally::default();
+    deletes(&mut session, LENGTH / 2, 1, LENGTH / 4, &mut delete);
+    deletes(&mut session, 0, 1, LENGTH / 4, &mut delete);
+    deletes(&mut session, 0, 0, LENGTH / 2, &mut delete);
+    let _ground = session.close();
     println!(rt; "row {row}")?;
     println!(rt; "insert {insert}")?;
     println!(rt; "at {at}, set {set}")?;

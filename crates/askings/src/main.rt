@@ -1,6 +1,7 @@
 // How often a call asks the ground: a row of 10,000 words comes at the front and goes, as in the office's script.
 #![tactic(auto)]
 
+ghost use Rattle.std.specs.Iterator.{IsFinite};
 ghost use Rattle.things.specs.Ground.{AtStart};
 
 use console::{ASKS, Session};
@@ -27,26 +28,28 @@ fn asks_of<B: Blocks + Bounds>(session: &mut Session<Ration<B>>, o: Op) -> u64 {
     ASKS.saturating_sub(session.ground().asks_left())
 }
 
-fn inserts<B: Blocks + Bounds>(session: &mut Session<Ration<B>>) -> Tally {
+// Call after call, each noted.
+fn asks_of_all<B: Blocks + Bounds, I: Iterator<Item = Op> + Drop>(
+    session: &mut Session<Ration<B>>,
+    calls: I,
+) -> Tally
+    requires can { I.can_next calls }
+    requires ends { IsFinite (I.remaining calls) }
+{
     let mut tally = Tally::default();
-    for x in 0..LENGTH {
-        tally.note(asks_of(session, Op::Insert(ROW, 0, x)));
+    for o in calls {
+        tally.note(asks_of(session, o));
     }
     tally
 }
 
-// `count` words go, `step` places apart, from `start` on; those that go are `step` apart in what is left.
-fn deletes<B: Blocks + Bounds>(
-    session: &mut Session<Ration<B>>,
-    start: u64,
-    step: u64,
-    count: u64,
-    tally: &mut Tally,
-) {
-    for j in 0..count {
-        let place = start.saturating_add(step.saturating_mul(j));
-        tally.note(asks_of(session, Op::Delete(ROW, place)));
-    }
+// Each second of the words from the middle on, which is the next place each time, then of those before it, then what is left.
+fn deletes<B: Blocks + Bounds>(session: &mut Session<Ration<B>>) -> Tally {
+    let middle = LENGTH / 2..LENGTH / 2 + LENGTH / 4;
+    let front = 0..LENGTH / 4;
+    let rest = (0..LENGTH / 2).map(|_| 0);
+    let places = middle.chain(front).chain(rest);
+    asks_of_all(session, places.map(|place| Op::Delete(ROW, place)))
 }
 
 fn measure<B: Blocks + Bounds + Drop>(rt: &HostRuntime, blocks: B) -> io::Result<()>
@@ -54,13 +57,10 @@ fn measure<B: Blocks + Bounds + Drop>(rt: &HostRuntime, blocks: B) -> io::Result
 {
     let mut session = Session::open(Ration::over(blocks));
     let row = asks_of(&mut session, Op::Row(ROW));
-    let insert = inserts(&mut session);
+    let insert = asks_of_all(&mut session, (0..LENGTH).map(|x| Op::Insert(ROW, 0, x)));
     let at = asks_of(&mut session, Op::At(ROW, LENGTH / 2));
     let set = asks_of(&mut session, Op::Set(ROW, LENGTH / 2, 7));
-    let mut delete = Tally::default();
-    deletes(&mut session, LENGTH / 2, 1, LENGTH / 4, &mut delete);
-    deletes(&mut session, 0, 1, LENGTH / 4, &mut delete);
-    deletes(&mut session, 0, 0, LENGTH / 2, &mut delete);
+    let delete = deletes(&mut session);
     let _ground = session.close();
     println!(rt; "row {row}")?;
     println!(rt; "insert {insert}")?;

@@ -19,8 +19,10 @@ impl Tally {
 impl fmt::Display for Tally {
     fn fmt<W: fmt::Write>(&self, f: &mut fmt::Formatter<W>) -> fmt::Result {
         let mean = self.asks / self.calls.max(1);
-        let calls = self.calls;
-        let most = self.most;
-        write!(f, "{calls} calls, {mean} in the mean, {most} at the most")
+        write!(
+            f,
+            "{} calls, {mean} in the mean, {} at the most",
+            self.calls, self.most
+        )
     }
 }

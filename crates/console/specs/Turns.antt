@@ -31,7 +31,7 @@ pub record Told (o : Op) (s : Things) (g : Ground) (a : Answer) (s' : Things) (g
   pub sound : Ready s' g'
   pub few : g'.many ≤ may_hold (after o a (shelf_of s g.block))
 
--- a call began, with nothing refused yet, and was served from there: so what was refused by its end was refused in it
+-- a call began on a ground where no refusal was noted, with the same blocks, and was served from there: so *full*, which is right only where a refusal is noted in the end, is told only for one in this very call
 pub record Began {G : Type 0} (as_ground : G → Ground) (o : Op) (t : State G) (a : Answer) (t' : State G) : Type 0 where
   pub begun : G
   pub block : (as_ground begun).block ≡ (as_ground t.ground).block
@@ -51,14 +51,14 @@ pub record Still (s : Things) (g : Ground) (s' : Things) (g' : Ground) : Type 0 
   pub sound : Ready s' g'
 
 -- no thing has changed, and the ration is this one
-pub record Rationed {B : Type 0} (as_ground : B → Ground) (r : Ration B) (t t' : State (Ration B)) : Type 0 where
+pub record RationIs {B : Type 0} (as_ground : B → Ground) (r : Ration B) (t t' : State (Ration B)) : Type 0 where
   pub still : Still t.things (ground_of as_ground t.ground) t'.things (ground_of as_ground t'.ground)
   pub ration : t'.ground ≡ r
 
 -- what a line comes to; n is its number
 abbrev pub Replied : {B : Type 0} → (B → Ground) → Option Line → ℕ → State (Ration B) → Option Reply → State (Ration B) → Type 0
 Replied as_ground (Some (line.Call o)) n t r t' = (a : Answer) × ((r ≡ Some (reply.Told a)) × Answered (ground_of as_ground) o t a t')
-Replied as_ground (Some (line.Refuse k)) n t r t' = (r ≡ None) × Rationed as_ground (refusing k t.ground) t t'
-Replied as_ground (Some (line.Room k)) n t r t' = (r ≡ None) × Rationed as_ground (limited k t.ground) t t'
+Replied as_ground (Some (line.Refuse k)) n t r t' = (r ≡ None) × RationIs as_ground (refusing k t.ground) t t'
+Replied as_ground (Some (line.Room k)) n t r t' = (r ≡ None) × RationIs as_ground (limited k t.ground) t t'
 Replied as_ground (Some line.Held) n t r t' = (r ≡ Some (reply.Held (ground_of as_ground t.ground).many)) × Still t.things (ground_of as_ground t.ground) t'.things (ground_of as_ground t'.ground)
 Replied as_ground None n t r t' = (r ≡ Some (reply.NotALine n)) × (t' ≡ t)

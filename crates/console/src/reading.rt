@@ -14,20 +14,13 @@ const LINE: usize = 128;
 // Replies of so many bytes are written, whether more lines are at hand or not.
 const REPLIES: usize = 4096;
 
-// The line without the newline at its end.
-fn trimmed(line: &[u8]) -> &[u8] {
-    match line {
-        [rest @ .., b'\n'] => rest,
-        _ => line,
-    }
-}
-
 impl<B: Blocks + Bounds> Session<Ration<B>> {
     // Replies go out together, but none is kept back while the next line is waited for. What memory this needs is had at the start.
     pub fn run(&mut self, rt: &HostRuntime) -> io::Result<()> {
         let mut input = BufReader::new(rt.alloc(), rt.stdin())?;
         let mut line = Vec::with_capacity(rt.alloc(), LINE)?;
         let mut out = String::with_capacity(rt.alloc(), REPLIES + LINE)?;
+        // not `input.lines()`: before each line it is looked whether all of it is at hand
         for number in 1..u64::MAX {
             if out.len() > REPLIES || !input.buffer().contains(&b'\n') {
                 rt.stdout().write_all(out.as_bytes())?;
@@ -37,7 +30,8 @@ impl<B: Blocks + Bounds> Session<Ration<B>> {
             if input.read_until(b'\n', &mut line)? == 0 {
                 break;
             }
-            if let Some(r) = self.reply(trimmed(&line), number) {
+            let text = line.strip_suffix(b"\n").unwrap_or(&line);
+            if let Some(r) = self.reply(text, number) {
                 writeln!(out, "{r}")?;
             }
         }
@@ -45,7 +39,7 @@ impl<B: Blocks + Bounds> Session<Ration<B>> {
     }
 }
 
-// A script over blocks of which none is held, with refusals on demand; none is held afterwards.
+// A script over blocks of which none is held, with refusals on demand; none is held afterwards. The blocks come back even if reading or writing failed.
 pub fn play<B: Blocks + Bounds>(rt: &HostRuntime, blocks: B) -> (B, io::Result<()>)
     requires { AtStart (B.Blocks.as_ground blocks) }
     ensures { (B.Blocks.as_ground result.0).many ≡ 0 }

@@ -1,5 +1,5 @@
 // Things on their ground, between two calls.
-ghost use Rattle.std.specs.Prelude.{◌≡◌, ℕ, ◌+◌, ◌*◌, ◌<◌, ◌≤◌};
+ghost use Rattle.std.specs.Prelude.{◌≡◌};
 ghost use Rattle.things.specs.Ground.{AtStart};
 ghost use Rattle.things.specs.Things.{empty};
 ghost use Rattle.things.specs.State.{shelf_of};

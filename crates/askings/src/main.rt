@@ -1,15 +1,14 @@
 // How often a call asks the ground: a row of 10,000 words comes at the front and goes, as in the office's script.
 #![tactic(auto)]
 
+ghost use Rattle.std.specs.Iterator.{IsFinite};
 ghost use Rattle.things.specs.Ground.{AtStart};
-ghost use Rattle.ration.specs.Refusing.{ground_of};
-ghost use Rattle.console.specs.Turns.{Ready};
 
-use console::{ask, close, open};
+use console::{ASKS, Session};
 use lent::{BLOCK_WORDS, Lent};
 use ration::Ration;
 use std::io;
-use things::{Blocks, Bounds, Op, Things};
+use things::{Blocks, Bounds, Op};
 
 mod tally;
 
@@ -23,61 +22,46 @@ const LENGTH: u64 = 10000;
 
 const ROW: u32 = 6;
 
-// What a call may ask at most.
-const ALLOWED: u64 = 16384;
-
 // One call, and how often it asked.
-fn asks_of<B: Blocks + Bounds>(s: &mut Things, b: &mut Ration<B>, o: Op) -> u64
-    requires { Ready s.old (ground_of B.Blocks.as_ground b.old) }
-    ensures { Ready s.new (ground_of B.Blocks.as_ground b.new) }
-{
-    let _a = ask(s, b, o);
-    ALLOWED.saturating_sub(b.asks_left())
+fn asks_of<B: Blocks + Bounds>(session: &mut Session<Ration<B>>, o: Op) -> u64 {
+    let _a = session.ask(o);
+    ASKS.saturating_sub(session.ground().asks_left())
 }
 
-fn inserts<B: Blocks + Bounds>(s: &mut Things, b: &mut Ration<B>) -> Tally
-    requires { Ready s.old (ground_of B.Blocks.as_ground b.old) }
-    ensures { Ready s.new (ground_of B.Blocks.as_ground b.new) }
+// Call after call, each noted.
+fn asks_of_all<B: Blocks + Bounds, I: Iterator<Item = Op> + Drop>(
+    session: &mut Session<Ration<B>>,
+    calls: I,
+) -> Tally
+    requires can { I.can_next calls }
+    requires ends { IsFinite (I.remaining calls) }
 {
-    let mut tally = Tally::new();
-    for x in 0..LENGTH {
-        tally.note(asks_of(s, b, Op::Insert(ROW, 0, x)));
+    let mut tally = Tally::default();
+    for o in calls {
+        tally.note(asks_of(session, o));
     }
     tally
 }
 
-// `count` words go, `step` places apart, from `start` on; those that go are `step` apart in what is left.
-fn deletes<B: Blocks + Bounds>(
-    s: &mut Things,
-    b: &mut Ration<B>,
-    start: u64,
-    step: u64,
-    count: u64,
-    tally: &mut Tally,
-)
-    requires { Ready s.old (ground_of B.Blocks.as_ground b.old) }
-    ensures { Ready s.new (ground_of B.Blocks.as_ground b.new) }
-{
-    for j in 0..count {
-        let place = start.saturating_add(step.saturating_mul(j));
-        tally.note(asks_of(s, b, Op::Delete(ROW, place)));
-    }
+// Each second of the words from the middle on, which is the next place each time, then of those before it, then what is left.
+fn deletes<B: Blocks + Bounds>(session: &mut Session<Ration<B>>) -> Tally {
+    let middle = LENGTH / 2..LENGTH / 2 + LENGTH / 4;
+    let front = 0..LENGTH / 4;
+    let rest = (0..LENGTH / 2).map(|_| 0);
+    let places = middle.chain(front).chain(rest);
+    asks_of_all(session, places.map(|place| Op::Delete(ROW, place)))
 }
 
 fn measure<B: Blocks + Bounds + Drop>(rt: &HostRuntime, blocks: B) -> io::Result<()>
     requires { AtStart (B.Blocks.as_ground blocks) }
 {
-    let mut b = Ration::over(blocks);
-    let mut s = open(&b);
-    let row = asks_of(&mut s, &mut b, Op::Row(ROW));
-    let insert = inserts(&mut s, &mut b);
-    let at = asks_of(&mut s, &mut b, Op::At(ROW, LENGTH / 2));
-    let set = asks_of(&mut s, &mut b, Op::Set(ROW, LENGTH / 2, 7));
-    let mut delete = Tally::new();
-    deletes(&mut s, &mut b, LENGTH / 2, 1, LENGTH / 4, &mut delete);
-    deletes(&mut s, &mut b, 0, 1, LENGTH / 4, &mut delete);
-    deletes(&mut s, &mut b, 0, 0, LENGTH / 2, &mut delete);
-    close(s, &mut b);
+    let mut session = Session::open(Ration::over(blocks));
+    let row = asks_of(&mut session, Op::Row(ROW));
+    let insert = asks_of_all(&mut session, (0..LENGTH).map(|x| Op::Insert(ROW, 0, x)));
+    let at = asks_of(&mut session, Op::At(ROW, LENGTH / 2));
+    let set = asks_of(&mut session, Op::Set(ROW, LENGTH / 2, 7));
+    let delete = deletes(&mut session);
+    let _ground = session.close();
     println!(rt; "row {row}")?;
     println!(rt; "insert {insert}")?;
     println!(rt; "at {at}, set {set}")?;

@@ -1,7 +1,7 @@
 // How many calls there were, how often they asked together, and the most that one did.
 use std::fmt;
 
-#[derive(Drop)]
+#[derive(Default, Drop)]
 pub struct Tally {
     calls: u64,
     asks: u64,
@@ -9,14 +9,6 @@ pub struct Tally {
 }
 
 impl Tally {
-    pub fn new() -> Tally {
-        Tally {
-            calls: 0,
-            asks: 0,
-            most: 0,
-        }
-    }
-
     pub fn note(&mut self, asks: u64) {
         self.calls = self.calls.saturating_add(1);
         self.asks = self.asks.saturating_add(asks);
@@ -27,8 +19,10 @@ impl Tally {
 impl fmt::Display for Tally {
     fn fmt<W: fmt::Write>(&self, f: &mut fmt::Formatter<W>) -> fmt::Result {
         let mean = self.asks / self.calls.max(1);
-        let calls = self.calls;
-        let most = self.most;
-        write!(f, "{calls} calls, {mean} in the mean, {most} at the most")
+        write!(
+            f,
+            "{} calls, {mean} in the mean, {} at the most",
+            self.calls, self.most
+        )
     }
 }

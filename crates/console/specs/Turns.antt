@@ -1,17 +1,24 @@
 -- What a line of a script does, and what is replied.
 -- Assumes nothing.
-use Rattle.std.specs.Prelude.{◌≡◌, ℕ, ◌≤◌, Some, None, Option}
+use Rattle.std.specs.Prelude.{◌≡◌, ℕ, ◌≤◌, false, Some, None, Option}
 use Rattle.things.specs.declared.Op.{Op}
 use Rattle.things.specs.declared.Answer.{Answer}
 use Rattle.things.specs.declared.state.Things.{Things}
 use Rattle.things.specs.Ground.{Ground}
 use Rattle.things.specs.Things.{Right, after, may_hold}
 use Rattle.things.specs.Promise.{can}
-use Rattle.things.specs.State.{Sound, shelf_of}
+use Rattle.things.specs.State.{Served, Sound, shelf_of}
+use Rattle.ration.specs.declared.Ration.{Ration}
+use Rattle.ration.specs.Refusing.{ground_of, refusing, limited}
 use Rattle.script.specs.declared.line.Line.{Line}
 use Rattle.script.specs.declared.line.Line.TheVariants as line
 use Rattle.script.specs.declared.reply.Reply.{Reply}
 use Rattle.script.specs.declared.reply.Reply.TheVariants as reply
+
+-- a session, as contracts see it
+pub record State (G : Type 0) : Type 0 where
+  pub things : Things
+  pub ground : G
 
 -- what is known between two turns
 abbrev pub Ready : Things → Ground → Type 0
@@ -24,16 +31,34 @@ pub record Told (o : Op) (s : Things) (g : Ground) (a : Answer) (s' : Things) (g
   pub sound : Ready s' g'
   pub few : g'.many ≤ may_hold (after o a (shelf_of s g.block))
 
--- nothing has changed
+-- a call began on a ground where no refusal was noted, with the same blocks, and was served from there: so *full*, which is right only where a refusal is noted in the end, is told only for one in this very call
+pub record Began {G : Type 0} (as_ground : G → Ground) (o : Op) (t : State G) (a : Answer) (t' : State G) : Type 0 where
+  pub begun : G
+  pub block : (as_ground begun).block ≡ (as_ground t.ground).block
+  pub many : (as_ground begun).many ≡ (as_ground t.ground).many
+  pub clear : (as_ground begun).failed ≡ false
+  pub served : Served o t.things (as_ground begun) a t'.things (as_ground t'.ground)
+
+-- a call was answered, and told of what was refused in it
+pub record Answered {G : Type 0} (as_ground : G → Ground) (o : Op) (t : State G) (a : Answer) (t' : State G) : Type 0 where
+  pub told : Told o t.things (as_ground t.ground) a t'.things (as_ground t'.ground)
+  pub began : Began as_ground o t a t'
+
+-- no thing has changed
 pub record Still (s : Things) (g : Ground) (s' : Things) (g' : Ground) : Type 0 where
   pub shelf : shelf_of s' g'.block ≡ shelf_of s g.block
   pub many : g'.many ≡ g.many
   pub sound : Ready s' g'
 
+-- no thing has changed, and the ration is this one
+pub record RationIs {B : Type 0} (as_ground : B → Ground) (r : Ration B) (t t' : State (Ration B)) : Type 0 where
+  pub still : Still t.things (ground_of as_ground t.ground) t'.things (ground_of as_ground t'.ground)
+  pub ration : t'.ground ≡ r
+
 -- what a line comes to; n is its number
-abbrev pub Replied : Option Line → ℕ → Things → Ground → Option Reply → Things → Ground → Type 0
-Replied (Some (line.Call o)) n s g r s' g' = (a : Answer) × ((r ≡ Some (reply.Told a)) × Told o s g a s' g')
-Replied (Some (line.Refuse k)) n s g r s' g' = (r ≡ None) × Still s g s' g'
-Replied (Some (line.Room k)) n s g r s' g' = (r ≡ None) × Still s g s' g'
-Replied (Some line.Held) n s g r s' g' = (r ≡ Some (reply.Held g.many)) × Still s g s' g'
-Replied None n s g r s' g' = (r ≡ Some (reply.NotALine n)) × Still s g s' g'
+abbrev pub Replied : {B : Type 0} → (B → Ground) → Option Line → ℕ → State (Ration B) → Option Reply → State (Ration B) → Type 0
+Replied as_ground (Some (line.Call o)) n t r t' = (a : Answer) × ((r ≡ Some (reply.Told a)) × Answered (ground_of as_ground) o t a t')
+Replied as_ground (Some (line.Refuse k)) n t r t' = (r ≡ None) × RationIs as_ground (refusing k t.ground) t t'
+Replied as_ground (Some (line.Room k)) n t r t' = (r ≡ None) × RationIs as_ground (limited k t.ground) t t'
+Replied as_ground (Some line.Held) n t r t' = (r ≡ Some (reply.Held (ground_of as_ground t.ground).many)) × Still t.things (ground_of as_ground t.ground) t'.things (ground_of as_ground t'.ground)
+Replied as_ground None n t r t' = (r ≡ Some (reply.NotALine n)) × (t' ≡ t)

@@ -1,8 +1,11 @@
 // A script is read line by line, each call is served, and the replies are written.
 #![tactic(auto)]
 
+mod limits;
 mod reading;
+mod session;
 mod turns;
 
-pub use reading::{play, run};
-pub use turns::{ask, close, open, reply};
+pub use limits::ASKS;
+pub use reading::play;
+pub use session::Session;

@@ -1,71 +1,30 @@
 // One line of a script: what it asks is done, and what is replied.
-ghost use Rattle.std.specs.Prelude.{◌≡◌, ℕ, ◌+◌, ◌*◌, ◌<◌, ◌≤◌};
-ghost use Rattle.things.specs.Ground.{AtStart};
-ghost use Rattle.things.specs.Things.{empty};
-ghost use Rattle.things.specs.State.{shelf_of};
+ghost use Rattle.std.specs.Prelude.{◌≡◌};
 ghost use Rattle.script.specs.Lines.{line_of};
-ghost use Rattle.ration.specs.Refusing.{ground_of};
-ghost use Rattle.console.specs.Turns.{Ready, Told, Replied};
+ghost use Rattle.console.specs.Turns.{Replied};
 
+use crate::session::Session;
 use ration::Ration;
 use script::{Line, Reply, parse};
-use things::{Answer, Blocks, Bounds, Op, Things};
+use things::{Blocks, Bounds};
 
-// Things on a ground of which nothing is held.
-pub fn open<B: Blocks>(b: &B) -> Things
-    requires { AtStart (B.Blocks.as_ground b.now) }
-    ensures { (Ready result (B.Blocks.as_ground b.now)) × (shelf_of result (B.Blocks.as_ground b.now).block ≡ empty) }
-{
-    Things::new()
-}
-
-// A call is served, with as many askings and blocks as it may have.
-pub fn ask<B: Blocks + Bounds>(s: &mut Things, b: &mut B, o: Op) -> Answer
-    requires { Ready s.old (B.Blocks.as_ground b.old) }
-    ensures { Told o s.old (B.Blocks.as_ground b.old) result s.new (B.Blocks.as_ground b.new) }
-{
-    // what was refused before this call doesn't count
-    let _before = b.failed();
-    let m = b.many();
-    match o {
-        Op::Free(_) => b.allow(16384 + 128 * m, m),
-        _ => b.allow(16384, m + 64),
-    }
-    s.serve(b, o)
-}
-
-// What a line comes to. `number` is the line's, counted from 1.
-pub fn reply<B: Blocks + Bounds>(
-    s: &mut Things,
-    b: &mut Ration<B>,
-    text: &[u8],
-    number: u64,
-) -> Option<Reply>
-    requires { Ready s.old (ground_of B.Blocks.as_ground b.old) }
-    ensures ready { Ready s.new (ground_of B.Blocks.as_ground b.new) }
-    ensures replied { Replied (line_of text.now) number s.old (ground_of B.Blocks.as_ground b.old) result s.new (ground_of B.Blocks.as_ground b.new) }
-{
-    match parse(text) {
-        Some(Line::Call(o)) => Some(Reply::Told(ask(s, b, o))),
-        Some(Line::Refuse(k)) => {
-            b.refuse(k);
-            None
+impl<B: Blocks + Bounds> Session<Ration<B>> {
+    // What a line comes to. `number` is the line's, counted from 1.
+    pub fn reply(&mut self, text: &[u8], number: u64) -> Option<Reply>
+        ensures replied { Replied B.Blocks.as_ground (line_of text.now) number self.old result self.new }
+    {
+        match parse(text) {
+            Some(Line::Call(o)) => Some(Reply::Told(self.ask(o))),
+            Some(Line::Refuse(k)) => {
+                self.ground.refuse(k);
+                None
+            }
+            Some(Line::Room(n)) => {
+                self.ground.set_room(n);
+                None
+            }
+            Some(Line::Held) => Some(Reply::Held(self.ground.many())),
+            None => Some(Reply::NotALine(number)),
         }
-        Some(Line::Room(n)) => {
-            b.set_room(n);
-            None
-        }
-        Some(Line::Held) => Some(Reply::Held(b.many())),
-        None => Some(Reply::NotALine(number)),
     }
-}
-
-// Everything is given back.
-pub fn close<B: Blocks + Bounds>(s: Things, b: &mut B)
-    requires { Ready s (B.Blocks.as_ground b.old) }
-    ensures { (B.Blocks.as_ground b.new).many ≡ 0 }
-{
-    let m = b.many();
-    b.allow(16384 + 128 * m, m);
-    s.close(b);
 }

@@ -14,8 +14,6 @@ pub use reply::{Reply, write};
 
 // What is written of a line is read back as that line.
 #[tactic(auto, using(crate::proofs::Returns::reads_back))]
-pub fn lines_read_back() -> u8
+pub fn lines_read_back()
     ensures { ReadsBack }
-{
-    0
-}
+{}

@@ -10,7 +10,8 @@ use Rattle.tree.specs.declared.top.Tree.{Tree}
 use Rattle.tree.specs.Tree.{uses, blocks, Sound}
 use Rattle.tree.specs.Tall.{tall_uses, Tall}
 use Rattle.tree.specs.Trees.{owns, Lies}
-use Rattle.tree.specs.Paths.{Branch, none}
+use Rattle.tree.specs.declared.path.Branch.{Branch}
+use Rattle.tree.specs.Paths.{none}
 use Rattle.tree.specs.Taking.{remaining, Pending, Giving}
 use Rattle.tree.proofs.Takes.{give_start, give_push, give_pick, give_pop, give_end, push_remaining, pick_remaining, pick_stored}
 use Rattle.clear.specs.Given.{give_asks, tall_blocks, GivenBack}

@@ -4,7 +4,8 @@ use Rattle.page.specs.Layout.{Layout}
 use Rattle.store.specs.Memory.{Memory, Stored, asked, released}
 use Rattle.tree.specs.declared.top.Tree.{Tree}
 use Rattle.tree.specs.Trees.{Lies}
-use Rattle.tree.specs.Paths.{Branch, none}
+use Rattle.tree.specs.declared.path.Branch.{Branch}
+use Rattle.tree.specs.Paths.{none}
 use Rattle.clear.specs.declared.stack.Visit.{Visit}
 use Rattle.clear.specs.Given.{give_asks, tall_blocks, GivenBack}
 use Rattle.clear.specs.Trail.{branch}

@@ -1,6 +1,6 @@
 -- A stack as a list: what goes on it and off it.
 use Rattle.std.proofs.Common.{◌≡◌, ℕ, zero, suc, ◌+◌, ◌-◌, ◌<◌, List, [], ◌∷◌, length, get_or, set, sym, refl, ap, ◌∙◌, ap₂, add-one, arith, get_or-set_other, get_or-set_same}
-use Rattle.tree.specs.Paths.{Branch}
+use Rattle.tree.specs.declared.path.Branch.{Branch}
 use Rattle.clear.specs.declared.stack.Visit.{Visit}
 use Rattle.clear.specs.Trail.{branch, nowhere, branches}
 

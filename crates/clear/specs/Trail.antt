@@ -1,7 +1,7 @@
 -- The stack of nodes, as a list with the last on top.
 -- Assumes nothing.
 use Rattle.std.specs.Prelude.{ℕ, zero, suc, List, [], ◌∷◌, slice_index_or}
-use Rattle.tree.specs.Paths.{Branch}
+use Rattle.tree.specs.declared.path.Branch.{Branch}
 use Rattle.clear.specs.declared.stack.Visit.{Visit}
 use Rattle.clear.specs.declared.stack.Stack.{Stack}
 

@@ -2,7 +2,7 @@
 -- Assumes nothing.
 use Rattle.std.specs.Prelude.{◌≡◌, ℕ, ◌+◌, ◌*◌, ◌<◌, ◌≤◌, List, ◌∷◌, length, slice_index, slice_index_or}
 use Rattle.store.specs.Memory.{Memory, asked, released}
-use Rattle.tree.specs.Paths.{Branch}
+use Rattle.tree.specs.declared.path.Branch.{Branch}
 use Rattle.clear.specs.declared.stack.Visit.{Visit}
 
 -- where the block of child i stands in a node whose entries have w words

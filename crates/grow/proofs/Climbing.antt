@@ -13,7 +13,8 @@ use Rattle.store.proofs.Sums.{hit_same}
 use Rattle.store.proofs.Stepping.{step_fits}
 use Rattle.store.proofs.Running.{held_le}
 use Rattle.tree.specs.Tree.{flat, All, contents, Sound, contents_of, ChildOk}
-use Rattle.tree.specs.Paths.{Branch, left, right, Path, before, behind, around}
+use Rattle.tree.specs.declared.path.Branch.{Branch}
+use Rattle.tree.specs.Paths.{left, right, Path, before, behind, around}
 use Rattle.tree.specs.Growing.{Loose, Growing, now}
 use Rattle.tree.specs.Climb.{one_or_two, branches, Start}
 use Rattle.tree.proofs.Each.{All-left, All-right}

@@ -12,7 +12,7 @@ use Rattle.tree.specs.Trees.{Lies}
 use Rattle.tree.specs.Pages.{page_asks}
 use Rattle.seek.specs.declared.reached.Reached.{Reached}
 use Rattle.seek.specs.Asks.{descend_asks}
-use Rattle.seek.specs.Sizes.{top_level}
+use Rattle.tree.specs.Sizes.{top_level}
 use Rattle.seek.specs.Descent.{nodes, Descended}
 use Rattle.tree.proofs.Low.{height_low}
 use Rattle.seek.proofs.Readings.{reading_left, reading_many}

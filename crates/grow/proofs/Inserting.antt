@@ -17,7 +17,8 @@ use Rattle.tree.specs.declared.top.Tree.{Tree}
 use Rattle.tree.specs.Tree.{contents, uses as treeUses, Sound, Root, blocks, Kept}
 use Rattle.tree.specs.Tall.{tall_contents, tall_uses, Tall}
 use Rattle.tree.specs.Trees.{Lies}
-use Rattle.tree.specs.Paths.{Branch, before, behind}
+use Rattle.tree.specs.declared.path.Branch.{Branch}
+use Rattle.tree.specs.Paths.{before, behind}
 use Rattle.tree.specs.Down.{Down}
 use Rattle.tree.specs.Leaves.{Begun}
 use Rattle.tree.specs.Climb.{one_or_two, branches, Start}

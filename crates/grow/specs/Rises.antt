@@ -8,7 +8,7 @@ use Rattle.store.specs.Memory.{Memory, Stored}
 use Rattle.store.specs.Steps.{Mem, held_in}
 use Rattle.store.specs.Stocked.{Stocked}
 use Rattle.store.specs.Reserve.{uses}
-use Rattle.tree.specs.Paths.{Branch}
+use Rattle.tree.specs.declared.path.Branch.{Branch}
 use Rattle.tree.specs.Climb.{one_or_two, Start, Grows}
 
 -- the entry at a place gives way to one or two

@@ -3,7 +3,7 @@ ghost use Rattle.std.specs.Prelude.{◌*◌, ◌<◌, ◌≤◌, []};
 ghost use Rattle.page.specs.Layout.{entry_of};
 ghost use Rattle.page.specs.View.{entries};
 ghost use Rattle.tree.specs.Climb.{branches};
-ghost use Rattle.seek.specs.Sizes.{longest};
+ghost use Rattle.tree.specs.Sizes.{longest};
 ghost use Rattle.grow.specs.Asks.{turn_asks};
 ghost use Rattle.grow.specs.Settle.{Settled};
 ghost use Rattle.grow.specs.Rises.{placed, PutIn, Valid, Spent, Ready, CanRise, Climbs};

@@ -1,6 +1,6 @@
 -- A path that grows downwards.
 use Rattle.std.proofs.Common.{◌≡◌, ℕ, zero, suc, ◌+◌, ◌<◌, ◌≤◌, ◌≢◌, List, [], ◌∷◌, length, set, refl, ap, ap₂, arith, get_or-set_other, get_or-set_same}
-use Rattle.tree.specs.Paths.{Branch}
+use Rattle.tree.specs.declared.path.Branch.{Branch}
 use Rattle.tree.specs.Climb.{branches}
 
 pub branches_none : (bs ps : List ℕ) (d : ℕ) → d ≡ 0 → branches bs ps d ≡ []

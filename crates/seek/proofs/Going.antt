@@ -21,7 +21,7 @@ use Rattle.seek.specs.declared.step.Step.{Step}
 use Rattle.seek.specs.Asks.{descend_asks}
 use Rattle.seek.specs.Chosen.{Chosen}
 use Rattle.seek.specs.Descent.{more, nodes, run_after, nodes_full, Descended}
-use Rattle.seek.specs.Sizes.{top_level, longest}
+use Rattle.tree.specs.Sizes.{top_level, longest}
 use Rattle.seek.proofs.Branches.{branches_none, branches_push}
 use Rattle.tree.proofs.Low.{level_low}
 use Rattle.seek.proofs.Readings.{reading_none, reading_asked, reading_then, reading_blocks, reading_left, reading_stored}

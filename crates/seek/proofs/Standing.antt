@@ -6,7 +6,7 @@ use Rattle.store.specs.Steps.{Mem, held, held_in}
 use Rattle.tree.specs.declared.top.Tree.{Tree}
 use Rattle.tree.specs.Climb.{branches}
 use Rattle.tree.specs.Pages.{Reading}
-use Rattle.tree.specs.Paths.{Branch}
+use Rattle.tree.specs.declared.path.Branch.{Branch}
 use Rattle.tree.specs.Trees.{owns, Stands, Lies}
 use Rattle.seek.specs.Descent.{nodes_full, full_run}
 use Rattle.seek.specs.Items.{Updated}

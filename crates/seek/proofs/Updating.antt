@@ -9,7 +9,8 @@ use Rattle.store.proofs.Running.{ran_then, ran_beside, ran_as}
 use Rattle.tree.specs.declared.top.Tree.{Tree}
 use Rattle.tree.specs.Tree.{uses, Root}
 use Rattle.tree.specs.Pages.{Writing}
-use Rattle.tree.specs.Paths.{Branch, Path, before, behind, around}
+use Rattle.tree.specs.declared.path.Branch.{Branch}
+use Rattle.tree.specs.Paths.{Path, before, behind, around}
 use Rattle.tree.specs.Trees.{holds, owns, Lies}
 use Rattle.tree.proofs.Paths.{seen}
 use Rattle.tree.proofs.Writing.{stored_after, wrote_reads}

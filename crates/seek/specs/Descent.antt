@@ -8,7 +8,7 @@ use Rattle.tree.specs.declared.top.Tree.{Tree}
 use Rattle.tree.specs.Climb.{branches}
 use Rattle.tree.specs.Down.{Down}
 use Rattle.tree.specs.Pages.{Reading}
-use Rattle.tree.specs.Paths.{Branch}
+use Rattle.tree.specs.declared.path.Branch.{Branch}
 use Rattle.seek.specs.declared.path.Path.{Path}
 use Rattle.seek.specs.declared.reached.Reached.{Reached}
 use Rattle.seek.specs.Asks.{descend_asks}

@@ -1,4 +1,3 @@
-pub mod Sizes
 pub mod Words
 pub mod Asks
 pub mod Descent

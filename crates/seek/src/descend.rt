@@ -3,7 +3,7 @@ ghost use Rattle.std.specs.Prelude.{◌≡◌, ◌+◌, ◌<◌, ◌≤◌, leng
 ghost use Rattle.tree.specs.Trees.{holds, Lies};
 ghost use Rattle.seek.specs.Asks.{descend_asks};
 ghost use Rattle.seek.specs.Descent.{more, run_after, Descended};
-ghost use Rattle.seek.specs.Sizes.{longest};
+ghost use Rattle.tree.specs.Sizes.{longest};
 
 use crate::choose::choose_child;
 use crate::path::Path;

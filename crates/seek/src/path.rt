@@ -1,6 +1,6 @@
 // The path from the root of a tree down to a leaf.
 ghost use Rattle.std.specs.Prelude.{◌≡◌, ◌+◌, ◌<◌, ◌≤◌, length, slice_set};
-ghost use Rattle.seek.specs.Sizes.{longest};
+ghost use Rattle.tree.specs.Sizes.{longest};
 
 // No path has more nodes; specs/Sizes.antt has the same number.
 pub const LONGEST: usize = 8;

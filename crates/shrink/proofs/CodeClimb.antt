@@ -4,7 +4,7 @@ use Rattle.page.specs.declared.child.Child.{Child}
 use Rattle.page.specs.Layout.{Layout}
 use Rattle.store.specs.Memory.{Memory}
 use Rattle.tree.specs.Climb.{branches}
-use Rattle.tree.specs.Paths.{Branch}
+use Rattle.tree.specs.declared.path.Branch.{Branch}
 use Rattle.shrink.specs.Shrinking.{Start, Climbing}
 use Rattle.shrink.specs.Turning.{Site, Below}
 

@@ -6,7 +6,8 @@ use Rattle.page.specs.Layout.{Layout, Lawful}
 use Rattle.store.specs.Memory.{Memory, Stored}
 use Rattle.tree.specs.Pages.{page_asks, Reading}
 use Rattle.tree.specs.Tree.{ChildOk}
-use Rattle.tree.specs.Paths.{Branch, none}
+use Rattle.tree.specs.declared.path.Branch.{Branch}
+use Rattle.tree.specs.Paths.{none}
 use Rattle.shrink.specs.Asks.{share_asks, turn_asks}
 use Rattle.shrink.specs.Sharing.{Neighbours, Shared}
 use Rattle.shrink.specs.Shrinking.{Start, Climbing, Ready}

@@ -4,7 +4,8 @@ use Rattle.std.specs.Prelude.{◌≡◌, ℕ, suc, Bool, List, ◌∷◌, ◌++�
 use Rattle.page.specs.declared.child.Child.{Child}
 use Rattle.page.specs.Layout.{Layout}
 use Rattle.store.specs.Memory.{Memory}
-use Rattle.tree.specs.Paths.{Branch, none}
+use Rattle.tree.specs.declared.path.Branch.{Branch}
+use Rattle.tree.specs.Paths.{none}
 use Rattle.shrink.specs.Asks.{share_asks}
 use Rattle.shrink.specs.Sharing.{Neighbours, Shared}
 use Rattle.shrink.specs.Shrinking.{Start, Climbing}

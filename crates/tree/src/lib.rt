@@ -6,6 +6,8 @@ ghost use Rattle.page.specs.declared.entry.Pair.{Pair};
 ghost use Rattle.tree.specs.Laws.{Frame, Bound, Height, Number};
 
 pub mod pages;
+pub mod path;
+pub mod risen;
 pub mod top;
 
 // Of trees of words, with 62 words to a leaf and 31 children to a node, and of pairs, with 31 and 20.

@@ -2,7 +2,7 @@ use Rattle.std.proofs.Common.{◌*◌, ◌≤◌, List, ◌∷◌, ap, ◌∙◌
 use Rattle.store.specs.Memory.{Memory}
 use Rattle.tree.specs.declared.top.Tree.{Tree}
 use Rattle.tree.specs.Trees.{Lies}
-use Rattle.tree.specs.Paths.{Branch}
+use Rattle.tree.specs.declared.path.Branch.{Branch}
 use Rattle.clear.specs.Given.{give_asks, tall_blocks}
 use Rattle.tree.proofs.Words.{nodes_read}
 use Rattle.clear.proofs.Going.{Task, low, begins, ends, turn_stored, asks_of_turn, turn_room, turn_readable, last_held, last_going, last_less, next_place, next_held, next_going, next_less}

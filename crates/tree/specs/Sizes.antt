@@ -1,4 +1,4 @@
--- How high trees can be, and how long paths.
+-- How high trees can be, and how long the ways down them.
 -- Assumes nothing.
 use Rattle.std.specs.Prelude.{ℕ}
 

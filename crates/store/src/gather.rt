@@ -8,8 +8,8 @@ use crate::fresh::Fresh;
 use crate::reserve::Reserve;
 
 // The memory refused a block.
-#[derive(Clone, Copy)]
-pub struct NoRoom {}
+#[derive(Clone, Copy, Debug, PartialEq, Eq)]
+pub struct NoRoom;
 
 // n blocks, or none: then all is as it was.
 pub fn reserve<W: Store<M>, M>(m: &mut M, n: usize) -> Result<Reserve, NoRoom>
@@ -22,7 +22,7 @@ pub fn reserve<W: Store<M>, M>(m: &mut M, n: usize) -> Result<Reserve, NoRoom>
     for _ in 0..n {
         let Some(f) = Fresh::obtain::<W, M>(m) else {
             give_all::<W, M>(got, m);
-            return Err(NoRoom {});
+            return Err(NoRoom);
         };
         got.push(f);
     }

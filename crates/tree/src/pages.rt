@@ -6,6 +6,7 @@ ghost use Rattle.tree.specs.Pages.{page_asks, Reading, Writing};
 use page::codec::Codec;
 use page::level::Level;
 use page::page::Page;
+use page::sizes::{BLOCK, HEAD};
 use store::Store;
 use store::words::{load, store};
 
@@ -18,7 +19,7 @@ pub fn load_page<L: Level, W: Store<M>, M>(m: &mut M, b: u32) -> Page<L::Entry>
     ensures same { Reading page_asks (W.Store.memory m.old) (W.Store.memory m.new) }
 {
     let n = W::get(m, b, 0) as u32;
-    let image = load::<W, M>(m, b, 2 + n * L::Entry::width() as u32);
+    let image = load::<W, M, BLOCK>(m, b, 0, HEAD as u32 + n * L::Entry::width() as u32);
     Page::unpack(&image)
 }
 
@@ -29,7 +30,8 @@ pub fn store_page<L: Level, W: Store<M>, M>(m: &mut M, b: u32, page: &Page<L::En
     requires few { length page.now ≤ L.Level.most }
     ensures { Writing page_asks L.Level.read b page.now (W.Store.memory m.old) (W.Store.memory m.new) }
 {
-    let mut image = [0; 64];
+    let mut image = [0; BLOCK];
     page.pack(&mut image);
-    store::<W, M>(m, b, 2 + page.len() as u32 * L::Entry::width() as u32, &image);
+    let words = HEAD as u32 + page.len() as u32 * L::Entry::width() as u32;
+    store::<W, M, BLOCK>(m, b, 0, words, &image);
 }

@@ -6,20 +6,20 @@ use Rattle.tree.proofs.pages.store_page.Goals as goal
 pub pack-requires : goal.pack-requires
 pack-requires g c = omega (arith, mul-le-mul_right g.L.Entry.Codec.width c.requires.few, g.met.L.Level.fits)
 
-pub overflow_mul-len : goal.overflow_mul-len
-overflow_mul-len g c =
+pub overflow_mul-words : goal.overflow_mul-words
+overflow_mul-words g c =
     let h : c.len.result * c.width.result ≤ 62 = rw (c.len.ensures.len, c.width.ensures) (omega (arith, mul-le-mul_right g.L.Entry.Codec.width c.requires.few, g.met.L.Level.fits)) in
     record { fits = omega arith }
 
-pub overflow_add-len : goal.overflow_add-len
-overflow_add-len g c =
+pub overflow_add-words : goal.overflow_add-words
+overflow_add-words g c =
     let h : c.len.result * c.width.result ≤ 62 = rw (c.len.ensures.len, c.width.ensures) (omega (arith, mul-le-mul_right g.L.Entry.Codec.width c.requires.few, g.met.L.Level.fits)) in
     record { fits = omega arith }
 
 pub store-requires : goal.store-requires
 store-requires g c =
     let h : c.len.result * c.width.result ≤ 62 = rw (c.len.ensures.len, c.width.ensures) (omega (arith, mul-le-mul_right g.L.Entry.Codec.width c.requires.few, g.met.L.Level.fits)) in
-    (omega arith, (omega (arith, c.requires.asks), c.requires.there))
+    record { inside = omega arith; fits = omega arith; asks = omega (arith, c.requires.asks); there = c.requires.there }
 
 pub returns : goal.returns
 returns g c =

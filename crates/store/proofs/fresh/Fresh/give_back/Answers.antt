@@ -6,4 +6,4 @@ use Rattle.store.proofs.fresh.Fresh.give_back.Goals as goal
 pub returns : goal.returns
 returns g c =
     let m = g.W.Store.memory c.args.m.now in
-    released_returned _ m _ c.requires.0 c.requires.1.0 c.requires.1.1 (c.release.ensures ∙ ap (λ (b : ℕ). released b m) c.into_block.ensures.0)
+    released_returned _ m _ c.requires.asks c.requires.held c.requires.there (c.release.ensures ∙ ap (λ (b : ℕ). released b m) c.into_block.ensures.block)

@@ -1,6 +1,7 @@
 -- A page is read from the words of a block that it uses, and written to them.
-use Rattle.std.proofs.Common.{◌≡◌, ℕ, ◌+◌, ◌*◌, ◌<◌, ◌≤◌, List, ◌++◌, length, get_or, take, drop, sym, ap, ◌∙◌, subst, mul-le-mul_left, mul-le-mul_right, mul-one, arith, length-append, length-drop, length-take-le, get_or-take}
+use Rattle.std.proofs.Common.{◌≡◌, ℕ, ◌+◌, ◌*◌, ◌<◌, ◌≤◌, List, ◌++◌, length, get_or, take, drop, sym, ap, ◌∙◌, subst, mul-le-mul_left, mul-le-mul_right, mul-one, zero-add, arith, length-append, length-drop, length-take-le, get_or-take}
 use Rattle.std.proofs.lemmas.List.{drop-take, take-take, take-append-le}
+use lib.Seq.{paste}
 use Rattle.page.specs.Layout.{imaged}
 use Rattle.page.proofs.Images.{imaged_part, length_rows}
 use Rattle.store.specs.Memory.{Memory, Stored, asked, wrote}
@@ -19,6 +20,10 @@ same_word k xs ys i l e = sym (get_or-take k xs i 0 l) ∙ ap (λ (zs : List ℕ
 
 pub same_part : (a k : ℕ) (xs ys : List ℕ) → take (a + k) xs ≡ take (a + k) ys → take k (drop a xs) ≡ take k (drop a ys)
 same_part a k xs ys e = sym (drop-take a k xs) ∙ ap (drop a) e ∙ drop-take a k ys
+
+-- written from the first word on
+pub paste_front : (n : ℕ) (d s : List ℕ) → paste d 0 s n ≡ take n s ++ drop n d
+paste_front n d s = ap (λ (k : ℕ). take n s ++ drop k d) (zero-add n)
 
 module _ {E : Type 0} (w : ℕ) (dec : List ℕ → E) where
   -- the words that are used are the same, so the page is

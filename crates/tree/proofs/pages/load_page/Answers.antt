@@ -20,7 +20,7 @@ overflow_add-n g c =
 pub load-image-requires : goal.load-image-requires
 load-image-requires g c =
     let h : c.get-n.result * c.width.result ≤ 62 = read_fits g.L.Entry.Codec.width g.L.Entry.Codec.decode g.L.Level.read g.met.L.Level.reads g.L.Level.most g.met.L.Level.fits ((g.W.Store.memory c.args.m.now).block c.args.b) c.requires.few c.get-n.ensures.word c.width.ensures in
-    record { inside = omega arith; fits = omega arith; asks = omega (arith, c.requires.asks, ap (λ m. m.left) c.get-n.ensures.same); there = rw c.get-n.ensures.same c.requires.there }
+    (omega arith, (omega arith, (omega arith, (omega (arith, c.requires.asks, ap (λ m. m.left) c.get-n.ensures.same), rw c.get-n.ensures.same c.requires.there))))
 
 pub unpack-requires : goal.unpack-requires
 unpack-requires g c =

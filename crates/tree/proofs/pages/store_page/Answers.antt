@@ -1,6 +1,6 @@
-use Rattle.std.proofs.Common.{◌≡◌, ℕ, ◌+◌, ◌*◌, ◌≤◌, ◌++◌, take, drop, length, sym, ◌∙◌, subst, mul-le-mul_right, arith}
+use Rattle.std.proofs.Common.{◌≡◌, ℕ, ◌+◌, ◌*◌, ◌≤◌, ◌++◌, take, drop, length, List, ap, sym, ◌∙◌, subst, mul-le-mul_right, arith}
 use Rattle.store.specs.Memory.{wrote}
-use Rattle.tree.proofs.Imaging.{few_entries, writing_image, writing_page}
+use Rattle.tree.proofs.Imaging.{paste_front, writing_image, writing_page}
 use Rattle.tree.proofs.pages.store_page.Goals as goal
 
 pub pack-requires : goal.pack-requires
@@ -19,7 +19,7 @@ overflow_add-words g c =
 pub store-requires : goal.store-requires
 store-requires g c =
     let h : c.len.result * c.width.result ≤ 62 = rw (c.len.ensures.len, c.width.ensures) (omega (arith, mul-le-mul_right g.L.Entry.Codec.width c.requires.few, g.met.L.Level.fits)) in
-    record { inside = omega arith; fits = omega arith; asks = omega (arith, c.requires.asks); there = c.requires.there }
+    (omega arith, (omega arith, (omega arith, (omega (arith, c.requires.asks), c.requires.there))))
 
 pub returns : goal.returns
 returns g c =
@@ -33,4 +33,4 @@ returns g c =
     (λ (v : ℕ).
     g.W.Store.memory c.store.new.m
     ≡ wrote (2 + n * v) c.args.b (take (2 + n * v) c.pack.new.image ++ drop (2 + n * v) ((g.W.Store.memory c.args.m.now).block c.args.b)) (g.W.Store.memory c.args.m.now))
-    c.width.ensures c.store.ensures))
+    c.width.ensures (c.store.ensures ∙ ap (λ (ws : List ℕ). wrote (2 + n * c.width.result) c.args.b ws (g.W.Store.memory c.args.m.now)) (paste_front (2 + n * c.width.result) ((g.W.Store.memory c.args.m.now).block c.args.b) c.pack.new.image))))

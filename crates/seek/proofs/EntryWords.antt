@@ -11,7 +11,7 @@ use Rattle.store.specs.Steps.{Ran, hit}
 use Rattle.store.proofs.Memories.{wrote_none, written_wrote}
 use Rattle.store.proofs.Running.{ran_wrote, ran_more}
 use Rattle.tree.specs.Pages.{Writing}
-use Rattle.seek.proofs.Imaged.{first_word}
+use Rattle.tree.proofs.Imaged.{first_word}
 
 -- word j of those behind the first a
 pub more_words : (ws us vs : List ℕ) (a j x : ℕ) → j < length us → a + j < length ws → x ≡ get_or ws (a + j) 0 → vs ≡ set us j x → take j us ≡ take j (drop a ws) → take (j + 1) vs ≡ take (j + 1) (drop a ws)

@@ -1,6 +1,5 @@
 pub mod Readings
 pub mod Counted
-pub mod Imaged
 pub mod EntryWords
 pub mod Tops
 pub mod Branches

@@ -7,7 +7,7 @@ ghost use Rattle.seek.specs.Descent.{more};
 ghost use Rattle.seek.specs.Chosen.{Chosen};
 
 use crate::step::Step;
-use crate::words::{child_block, child_count, number_of_children};
+use tree::reads::{child_block, child_count, number_of_children};
 use page::kind::Kind;
 use store::Store;
 

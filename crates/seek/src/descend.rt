@@ -8,7 +8,7 @@ ghost use Rattle.tree.specs.Sizes.{longest};
 use crate::choose::choose_child;
 use crate::path::Path;
 use crate::reached::Reached;
-use crate::words::number_of_entries;
+use tree::reads::number_of_entries;
 use page::kind::Kind;
 use store::Store;
 use tree::top::Tree;

@@ -2,9 +2,9 @@
 ghost use Rattle.std.specs.Prelude.{◌≡◌, ◌+◌, ◌<◌, ◌≤◌, take, drop, slice_index, slice_set};
 ghost use Rattle.std.proofs.Math.Seq.{paste};
 ghost use Rattle.store.specs.Memory.{Stored, asked, wrote, written};
-ghost use Rattle.seek.specs.Words.{word_of_entry};
+ghost use Rattle.tree.specs.Reads.{word_of_entry};
 
-use crate::words::entry_word;
+use tree::reads::entry_word;
 use page::codec::Codec;
 use page::sizes::WORDS;
 use store::Store;

@@ -6,7 +6,7 @@ ghost use Rattle.tree.specs.Pages.{page_asks, Reading};
 ghost use Rattle.tree.specs.Trees.{holds, Lies};
 ghost use Rattle.seek.specs.Asks.{length_asks};
 
-use crate::words::{child_count, number_of_children, number_of_entries};
+use tree::reads::{child_count, number_of_children, number_of_entries};
 use page::kind::Kind;
 use store::Store;
 use tree::top::Tree;

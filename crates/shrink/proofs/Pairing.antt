@@ -6,7 +6,7 @@ use Rattle.store.specs.Memory.{Memory, Stored}
 use Rattle.store.specs.Steps.{Mem, hit}
 use Rattle.tree.specs.Climb.{one_or_two}
 use Rattle.tree.specs.Tree.{uses, many, low, Sound}
-use Rattle.seek.proofs.Imaged.{first_word}
+use Rattle.tree.proofs.Imaged.{first_word}
 use Rattle.shrink.specs.Asks.{share_asks}
 use Rattle.shrink.specs.Sharing.{InOne, InTwo, Neighbours, Shared}
 use Rattle.shrink.proofs.Evening.{two_blocks, in_one_as, in_two_as}

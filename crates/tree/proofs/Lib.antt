@@ -24,3 +24,4 @@ pub mod Low
 pub mod Keying
 pub mod KeyPaths
 pub mod Words
+pub mod Imaged

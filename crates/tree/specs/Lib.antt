@@ -1,3 +1,4 @@
+pub mod Reads
 pub mod Sizes
 pub mod Tree
 pub mod Levels

@@ -7,6 +7,7 @@ ghost use Rattle.tree.specs.Laws.{Frame, Bound, Height, Number};
 
 pub mod pages;
 pub mod path;
+pub mod reads;
 pub mod risen;
 pub mod top;
 

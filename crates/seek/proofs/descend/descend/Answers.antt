@@ -2,7 +2,7 @@ use Rattle.std.proofs.Common.{◌≡◌, ℕ, sym, refl, ◌∙◌, ap₂, arith
 use Rattle.std.proofs.lemmas.List.{get_or_default}
 use Rattle.tree.specs.Paths.{none}
 use Rattle.seek.specs.Descent.{run_after}
-use Rattle.seek.proofs.Imaged.{first_word}
+use Rattle.tree.proofs.Imaged.{first_word}
 use Rattle.seek.proofs.Going.{going_start, going_stored, going_short, going_depth, going_asks, asks_of_node, node_few, node_some, node_there, child_small, going_chosen, going_end}
 use Rattle.seek.proofs.descend.descend.Goals as goal
 

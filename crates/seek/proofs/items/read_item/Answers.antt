@@ -1,6 +1,6 @@
 use Rattle.std.proofs.Common.{ℕ, ◌+◌, ◌*◌, ◌≤◌, take, drop, ap, ◌∙◌, arith}
 use Rattle.page.proofs.Images.{few_entries}
-use Rattle.seek.proofs.Imaged.{entry_at, entry_inside}
+use Rattle.tree.proofs.Imaged.{entry_at, entry_inside}
 use Rattle.seek.proofs.Readings.{reading_asked}
 use Rattle.seek.proofs.items.read_item.Given as given
 use Rattle.seek.proofs.items.read_item.Goals as goal

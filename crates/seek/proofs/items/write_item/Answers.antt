@@ -2,7 +2,7 @@ use Rattle.std.proofs.Common.{ℕ, ◌+◌, ◌*◌, ◌≤◌, take, ap, ◌∙
 use lib.Seq.{paste}
 use Rattle.page.proofs.Images.{few_entries}
 use Rattle.store.specs.Memory.{wrote}
-use Rattle.seek.proofs.Imaged.{entry_inside}
+use Rattle.tree.proofs.Imaged.{entry_inside}
 use Rattle.seek.proofs.EntryWords.{writing_entry, take_pasted}
 use Rattle.seek.proofs.items.write_item.Given as given
 use Rattle.seek.proofs.items.write_item.Goals as goal

@@ -1,5 +1,5 @@
 use Rattle.std.proofs.Common.{sym, ◌∙◌}
-use Rattle.seek.proofs.Imaged.{first_word, page_fits}
+use Rattle.tree.proofs.Imaged.{first_word, page_fits}
 use Rattle.seek.proofs.nodes.load_leaf.Goals as goal
 
 pub load_page-requires : goal.load_page-requires

@@ -1,6 +1,6 @@
 use Rattle.std.proofs.Common.{◌≤◌, length, sym, ap, ◌∙◌, arith}
 use Rattle.page.proofs.Images.{few_entries}
-use Rattle.seek.proofs.Imaged.{first_word}
+use Rattle.tree.proofs.Imaged.{first_word}
 use Rattle.seek.proofs.Readings.{reading_none, reading_asked}
 use Rattle.seek.proofs.Tops.{none_held, top_leaf, top_node, tall_low}
 use Rattle.seek.proofs.size.length.Goals as goal

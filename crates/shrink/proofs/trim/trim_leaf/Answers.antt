@@ -1,6 +1,6 @@
 use Rattle.std.proofs.Common.{length, ap, ◌∙◌, arith}
 use Rattle.store.specs.Memory.{Memory}
-use Rattle.seek.proofs.Imaged.{first_word}
+use Rattle.tree.proofs.Imaged.{first_word}
 use Rattle.shrink.proofs.CodeTop.{top_stored, top_left, code_leaf_stays, code_leaf_gone}
 use Rattle.shrink.proofs.trim.trim_leaf.Goals as goal
 

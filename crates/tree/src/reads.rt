@@ -2,22 +2,22 @@
 ghost use Rattle.std.specs.Prelude.{◌≡◌, ◌+◌, ◌*◌, ◌<◌, ◌≤◌, length, slice_index, slice_index_or};
 ghost use Rattle.store.specs.Memory.{Stored, asked};
 ghost use Rattle.tree.specs.Paths.{none};
-ghost use Rattle.seek.specs.Words.{word_of_entry};
+ghost use Rattle.tree.specs.Reads.{word_of_entry};
 
 use page::codec::Codec;
 use page::kind::Kind;
+use page::sizes::HEAD;
 use store::Store;
-
-// The entries of a page stand behind its two words of head; specs/Words.antt has the same number.
-const FIRST_ENTRY: u32 = 2;
 
 // The word that says how many entries there are.
 const ENTRIES: u32 = 0;
 
 // How many entries the page at block b has.
 pub fn number_of_entries<W: Store<M>, M>(m: &mut M, b: u32) -> u64
-    requires { (0 < (W.Store.memory m.old).left) × (Stored (W.Store.memory m.old).block b) }
-    ensures { (result ≡ slice_index ((W.Store.memory m.old).block b) 0) × (W.Store.memory m.new ≡ asked 1 (W.Store.memory m.old)) }
+    requires asks { 0 < (W.Store.memory m.old).left }
+    requires there { Stored (W.Store.memory m.old).block b }
+    ensures value { result ≡ slice_index ((W.Store.memory m.old).block b) 0 }
+    ensures same { W.Store.memory m.new ≡ asked 1 (W.Store.memory m.old) }
 {
     W::get(m, b, ENTRIES)
 }
@@ -27,7 +27,7 @@ pub fn entry_word<C: Codec>(i: u32) -> u32
     requires { word_of_entry C.Codec.width i < 64 }
     ensures { result ≡ word_of_entry C.Codec.width i }
 {
-    FIRST_ENTRY + C::width() as u32 * i
+    HEAD as u32 + C::width() as u32 * i
 }
 
 // How many children the node at block b has.

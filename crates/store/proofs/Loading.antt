@@ -1,9 +1,9 @@
 -- Words of a block, read one after the other and written so.
 use Rattle.std.proofs.Common.{◌≡◌, ℕ, ◌+◌, ◌<◌, ◌≤◌, List, length, get_or, take, drop, ap, ◌∙◌, add_comm}
 use lib.Seq.{paste}
-use Rattle.std.proofs.lemmas.List.Edits.{paste_none, paste_more}
+use Rattle.std.proofs.lemmas.List.Edits.{paste_more}
 use Rattle.store.specs.Memory.{Memory, asked, wrote, written}
-use Rattle.store.proofs.Memories.{wrote_none, written_wrote}
+use Rattle.store.proofs.Memories.{written_wrote}
 
 -- ws: the first i of n words are those of block b from word a on, and the others are 0
 pub record Loading (a b n i : ℕ) (ws : List ℕ) (m m' : Memory) : Type 0 where
@@ -14,9 +14,6 @@ pub record Loading (a b n i : ℕ) (ws : List ℕ) (m m' : Memory) : Type 0 wher
 
 -- what was written to block b from word a on
 module _ (b a : ℕ) (ws : List ℕ) (m : Memory) where
-  pub storing_none : m ≡ wrote 0 b (paste (m.block b) a ws 0) m
-  storing_none = wrote_none b m ∙ ap (λ (vs : List ℕ). wrote 0 b vs m) (paste_none (m.block b) a ws)
-
   -- one word more was written
   pub storing_more : (i : ℕ) (m' m'' : Memory) → a + i < length (m.block b) → i < length ws → m' ≡ wrote i b (paste (m.block b) a ws i) m → m'' ≡ written b (a + i) (get_or ws i 0) m' → m'' ≡ wrote (i + 1) b (paste (m.block b) a ws (i + 1)) m
   storing_more i m' m'' l h e f =

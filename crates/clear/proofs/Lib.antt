@@ -1,4 +1,2 @@
-pub mod Stacks
 pub mod Low
 pub mod Clearing
-pub mod Going

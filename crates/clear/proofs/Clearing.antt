@@ -1,29 +1,24 @@
 -- The turns of giving back a tree.
-use Rattle.std.proofs.Common.{◌≡◌, ℕ, zero, suc, ◌+◌, ◌-◌, ◌*◌, ◌<◌, ◌≤◌, List, [], ◌∷◌, length, refl, ap, ◌∙◌, subst, add-one, arith}
+use Rattle.std.proofs.Common.{◌≡◌, ℕ, zero, suc, ◌+◌, ◌-◌, ◌*◌, ◌<◌, ◌≤◌, List, [], ◌∷◌, length, refl, ap, subst, add-one, arith}
 use Rattle.page.specs.Layout.{Layout}
 use Rattle.store.specs.Memory.{Memory, Stored, at, released}
-use Rattle.store.specs.Steps.{Mem, Ran, held, held_in, sum_to}
-use Rattle.store.proofs.Sums.{sum_to_add, sum_to_same}
-use Rattle.store.proofs.Stepping.{held_at, step_release}
-use Rattle.store.proofs.Running.{some_none, stored_held, ran_none}
-use Rattle.tree.specs.declared.top.Tree.{Tree}
-use Rattle.tree.specs.Tree.{uses, blocks, Sound}
-use Rattle.tree.specs.Tall.{tall_uses, Tall}
-use Rattle.tree.specs.Trees.{owns, Lies}
+use Rattle.store.specs.Steps.{Mem, held_in}
+use Rattle.store.proofs.Stepping.{held_at}
+use Rattle.store.proofs.Running.{some_none, stored_held}
+use Rattle.tree.specs.Tall.{tall_uses}
 use Rattle.tree.specs.declared.path.Branch.{Branch}
 use Rattle.tree.specs.Down.{turn}
-use Rattle.tree.specs.Taking.{to_do, remaining, Pending, Giving}
-use Rattle.tree.proofs.Low.{height_low}
-use Rattle.tree.proofs.Takes.{give_start, give_push, give_pick, give_pop, give_end, push_remaining, pick_remaining, pick_stored}
-use Rattle.clear.specs.Given.{give_asks, tall_blocks, GivenBack}
+use Rattle.tree.specs.Taking.{remaining, Pending, Giving}
+use Rattle.tree.proofs.Takes.{give_push, give_pick, give_pop, push_remaining, pick_remaining, pick_stored}
+use Rattle.clear.specs.Given.{give_asks, tall_blocks}
 use Rattle.clear.specs.Visits.{Childless, NextChild, GoneDown}
-use Rattle.clear.proofs.Low.{tall_used}
 
-held_less : (b : ℕ) (m : Memory) → Stored m.block b → m.many ≡ held_in m.block → m.many - 1 ≡ held_in (at b [] m.block)
+-- one block less is held
+pub held_less : (b : ℕ) (m : Memory) → Stored m.block b → m.many ≡ held_in m.block → m.many - 1 ≡ held_in (at b [] m.block)
 held_less b m s e = omega (arith, held_at m.block b [] s.0, some_none [] refl, stored_held m.block b s)
 
 module _ {E : Type 0} (K : Layout E) where
-  -- the next child is a node of the row
+  -- the row, with w a child further
   abbrev ahead : Branch → List Branch → List Branch
   ahead w ws = record { block = w.block; place = suc w.place } ∷ ws
 
@@ -37,11 +32,6 @@ module _ {E : Type 0} (K : Layout E) where
   more_nodes : (f : Mem) (h : ℕ) (w : Branch) (ws : List Branch) → w.place < length (K.children (f w.block)) → 1 + length (w ∷ ws) ≤ remaining K f h (w ∷ ws)
   more_nodes f zero w ws l = omega (arith, pick_remaining K f w ws l, few_nodes f 0 (ahead w ws))
   more_nodes f (suc h) w ws l = omega (arith, push_remaining K f h w ws l, few_nodes f h (record { block = turn K f w.block w.place; place = 0 } ∷ ahead w ws))
-
-  -- a leaf was given back, and nothing is to do
-  leaf_given : {f : Mem} (r : ℕ) → Stored f r → Giving K (uses K 0 f r) f 0 [] (at r [] f)
-  unfolding uses to_do Pending
-  leaf_given {f} r s = record { step = step_release r f (stored_held f r s); fits = λ c. omega arith; pending = tt }
 
   -- the tree of height H at r was to be given back in m₀; the nodes ws, whose children have level h, are still to do in m
   -- each of them was paid half when it was found
@@ -57,162 +47,97 @@ module _ {E : Type 0} (K : Layout E) where
   abbrev pub Going : ℕ → ℕ → Memory → List Branch → Memory → Type 0
   Going H r m₀ ws m = (h : ℕ) × Clearing H r m₀ h ws m
 
-  -- a node w is taken off the row s
-  module _ {H r : ℕ} {m₀ : Memory} {w : Branch} {s ws : List Branch} {m : Memory} (i : Going H r m₀ s m) (e : s ≡ w ∷ ws) where
-    here : Clearing H r m₀ i.0 (w ∷ ws) m
-    here = subst (λ (x : List Branch). Clearing H r m₀ i.0 x m) e i.1
+-- a node w is taken off the row s
+module _ {E : Type 0} {K : Layout E} {H r : ℕ} {m₀ : Memory} {w : Branch} {s ws : List Branch} {m : Memory} (i : Going K H r m₀ s m) (e : s ≡ w ∷ ws) where
+  here : Clearing K H r m₀ i.0 (w ∷ ws) m
+  here = subst (λ (x : List Branch). Clearing K H r m₀ i.0 x m) e i.1
 
-    pub turn_stored : Stored m.block w.block
-    unfolding Pending
-    turn_stored = here.giving.pending.0
+  pub turn_stored : Stored m.block w.block
+  unfolding Pending
+  turn_stored = here.giving.pending.0
 
-    pub turn_few : length (K.children (m.block w.block)) ≤ K.node_cap
-    unfolding Pending
-    turn_few = here.giving.pending.1
+  pub turn_few : length (K.children (m.block w.block)) ≤ K.node_cap
+  unfolding Pending
+  turn_few = here.giving.pending.1
 
-    pub turn_asks : 2 ≤ m.left
-    turn_asks = omega (arith, here.asks, here.enough, few_nodes m.block i.0 (w ∷ ws))
+  pub turn_asks : 2 ≤ m.left
+  turn_asks = omega (arith, here.asks, here.enough, few_nodes K m.block i.0 (w ∷ ws))
 
-    pub turn_child : w.place < length (K.children (m.block w.block)) → Stored m.block (turn K m.block w.block w.place)
-    turn_child l = pick_stored K m.block i.0 w ws l here.giving.pending
+  pub turn_child : w.place < length (K.children (m.block w.block)) → Stored m.block (turn K m.block w.block w.place)
+  turn_child l = pick_stored K m.block i.0 w ws l here.giving.pending
 
-    pub turn_room : H ≤ 7 → length ws + 2 ≤ 7
-    turn_room l = omega (arith, here.deep, l)
+  pub turn_room : H ≤ 7 → length ws + 2 ≤ 7
+  turn_room l = omega (arith, here.deep, l)
 
-    -- all children have been, and the node goes back
-    module _ {m₁ : Memory} (n : Childless K w m m₁) where
-      pub last_held : (0 < m₁.left) × Stored m₁.block w.block
-      last_held = rw n.same (omega (arith, turn_asks), turn_stored)
+  -- all children have been, and the node goes back
+  module _ {m₁ : Memory} (n : Childless K w m m₁) where
+    pub last_held : (0 < m₁.left) × Stored m₁.block w.block
+    last_held = rw n.same (omega (arith, turn_asks), turn_stored)
 
-      pub last_going : {m₂ : Memory} → m₂ ≡ released w.block m₁ → Going H r m₀ ws m₂ × (m₂.left < m.left)
-      last_going q =
-          let z = give_pop K _ m₀.block i.0 w ws m.block here.giving n.none in
-          rw (q, n.same) (
+    pub last_going : {m₂ : Memory} → m₂ ≡ released w.block m₁ → Going K H r m₀ ws m₂ × (m₂.left < m.left)
+    last_going q =
+        let z = give_pop K _ m₀.block i.0 w ws m.block here.giving n.none in
+        rw (q, n.same) (
+          (
+            suc i.0,
+            record {
+              enough = here.enough;
+              giving = z.0;
+              deep = omega (arith, here.deep);
+              number = held_less w.block m turn_stored here.number;
+              asks = omega (arith, z.1, here.asks, turn_asks);
+              top = here.top;
+              failed = here.failed;
+            },
+          ),
+          omega (arith, turn_asks),
+        )
+
+  -- c is next
+  module _ {c : ℕ} {m₁ : Memory} (n : NextChild K w c m m₁) where
+    pub next_asks : 3 ≤ m.left
+    next_asks = omega (arith, here.asks, here.enough, more_nodes K m.block i.0 w ws n.some)
+
+    pub next_held : (0 < m₁.left) × Stored m₁.block c
+    next_held = rw (n.same, n.is) (omega (arith, next_asks), turn_child n.some)
+
+    module _ {s₂ s₃ : List Branch} {m₂ : Memory} (p : s₂ ≡ record { block = w.block; place = w.place + 1 } ∷ ws) (d : GoneDown H c s₂ m₁ s₃ m₂) where
+      down : (h : ℕ) → Clearing K H r m₀ h (w ∷ ws) m → Going K H r m₀ s₃ m₂ × (m₂.left < m.left)
+      down zero v =
+          let l : H ≤ length s₂ + 1 = omega (arith, v.deep, ap length p) in
+          let z = give_pick K _ m₀.block w ws m.block v.giving n.some in
+          rw (d.as_long l, p, add-one w.place, d.gone l, n.same, n.is) (
             (
-              suc i.0,
+              0,
               record {
-                enough = here.enough;
+                enough = v.enough;
                 giving = z.0;
-                deep = omega (arith, here.deep);
-                number = held_less w.block m turn_stored here.number;
-                asks = omega (arith, z.1, here.asks, turn_asks);
-                top = here.top;
-                failed = here.failed;
+                deep = v.deep;
+                number = held_less _ m (turn_child n.some) v.number;
+                asks = omega (arith, z.1, v.asks, next_asks);
+                top = v.top;
+                failed = v.failed;
               },
             ),
-            omega (arith, turn_asks),
+            omega (arith, next_asks),
+          )
+      down (suc h) v =
+          let l : length s₂ + 1 < H = omega (arith, v.deep, ap length p) in
+          rw (d.longer l, p, add-one w.place, d.waits l, n.same, n.is) (
+            (
+              h,
+              record {
+                enough = v.enough;
+                giving = give_push K _ m₀.block h w ws m.block v.giving n.some;
+                deep = omega (arith, v.deep);
+                number = v.number;
+                asks = omega (arith, push_remaining K m.block h w ws n.some, v.asks, next_asks);
+                top = v.top;
+                failed = v.failed;
+              },
+            ),
+            omega (arith, next_asks),
           )
 
-    -- c is next
-    module _ {c : ℕ} {m₁ : Memory} (n : NextChild K w c m m₁) where
-      pub next_asks : 3 ≤ m.left
-      next_asks = omega (arith, here.asks, here.enough, more_nodes m.block i.0 w ws n.some)
-
-      pub next_held : (0 < m₁.left) × Stored m₁.block c
-      next_held = rw (n.same, n.is) (omega (arith, next_asks), turn_child n.some)
-
-      module _ {s₂ s₃ : List Branch} {m₂ : Memory} (p : s₂ ≡ record { block = w.block; place = w.place + 1 } ∷ ws) (d : GoneDown H c s₂ m₁ s₃ m₂) where
-        down : (h : ℕ) → Clearing H r m₀ h (w ∷ ws) m → Going H r m₀ s₃ m₂ × (m₂.left < m.left)
-        down zero v =
-            let l : H ≤ length s₂ + 1 = omega (arith, v.deep, ap length p) in
-            let z = give_pick K _ m₀.block w ws m.block v.giving n.some in
-            rw (d.as_long l, p, add-one w.place, d.gone l, n.same, n.is) (
-              (
-                0,
-                record {
-                  enough = v.enough;
-                  giving = z.0;
-                  deep = v.deep;
-                  number = held_less _ m (turn_child n.some) v.number;
-                  asks = omega (arith, z.1, v.asks, next_asks);
-                  top = v.top;
-                  failed = v.failed;
-                },
-              ),
-              omega (arith, next_asks),
-            )
-        down (suc h) v =
-            let l : length s₂ + 1 < H = omega (arith, v.deep, ap length p) in
-            rw (d.longer l, p, add-one w.place, d.waits l, n.same, n.is) (
-              (
-                h,
-                record {
-                  enough = v.enough;
-                  giving = give_push K _ m₀.block h w ws m.block v.giving n.some;
-                  deep = omega (arith, v.deep);
-                  number = v.number;
-                  asks = omega (arith, push_remaining K m.block h w ws n.some, v.asks, next_asks);
-                  top = v.top;
-                  failed = v.failed;
-                },
-              ),
-              omega (arith, next_asks),
-            )
-
-        pub next_going : Going H r m₀ s₃ m₂ × (m₂.left < m.left)
-        next_going = down i.0 here
-
-  module _ {t : Tree} {m₀ : Memory} (lies : Lies K m₀ t) where
-    -- the start
-    pub root_stored : 0 < t.height → Stored m₀.block t.root × (0 < tall_blocks K t.height m₀.block t.root)
-    unfolding Tall Sound tall_blocks blocks
-    root_stored l = stored t.height t.root l lies.stands
-      where
-        stored : (H r : ℕ) → 0 < H → Tall K H m₀.block r → Stored m₀.block r × (0 < tall_blocks K H m₀.block r)
-        stored zero r l w = absurd (omega arith)
-        stored (suc zero) r l w = (w.sound.0, omega arith)
-        stored (suc (suc h)) r l w = (w.sound.0, omega arith)
-
-    module _ (wide : 20 ≤ K.node_cap) where
-      pub low : t.height ≤ 7
-      low = height_low K wide t.height m₀.block t.root lies.stands lies.once
-
-    module _ (enough : give_asks * tall_blocks K t.height m₀.block t.root ≤ m₀.left) where
-      pub started : {s ws : List Branch} {m : Memory} → 0 < t.height → s ≡ [] → GoneDown t.height t.root s m₀ ws m → Going t.height t.root m₀ ws m
-      unfolding Tall Sound tall_uses uses tall_blocks blocks remaining
-      started {s} {ws} {m} l e d = start t.height t.root l lies.stands lies.once enough (subst (λ (x : List Branch). GoneDown t.height t.root x m₀ ws m) e d)
-        where
-          start : (H r : ℕ) → 0 < H → Tall K H m₀.block r → ((c : ℕ) → tall_uses K H m₀.block r c ≤ held m₀.block c) → give_asks * tall_blocks K H m₀.block r ≤ m₀.left → GoneDown H r [] m₀ ws m → Going H r m₀ ws m
-          start zero r l w a k d = absurd (omega arith)
-          start (suc zero) r l w a k d = rw (d.as_long (omega arith), d.gone (omega arith)) (
-            0,
-            record {
-              enough = k;
-              giving = leaf_given r w.sound.0;
-              deep = omega arith;
-              number = held_less r m₀ w.sound.0 lies.number;
-              asks = omega (arith, k);
-              top = refl;
-              failed = refl;
-            },
-          )
-          start (suc (suc h)) r l w a k d =
-              let z = give_start K m₀.block h r w.sound a in
-              rw (d.longer (omega arith), d.waits (omega arith)) (
-                h,
-                record { enough = k; giving = z.0; deep = omega arith; number = lies.number; asks = omega (arith, z.1); top = refl; failed = refl },
-              )
-
-    -- the end: what was given back is as many blocks as the tree had
-    given_by : (m : Memory) → Ran (give_asks * tall_blocks K t.height m₀.block t.root) (owns K m₀.block t) (λ c. 0) m₀ m → GivenBack K t m₀ m
-    given_by m p = record { ran = p; many = omega (arith, p.number, sums, tall_used K t.height m₀.block t.root lies.stands, lies.number) }
-      where
-        sums : held_in m₀.block ≡ sum_to 1048576 (owns K m₀.block t) + held_in m.block
-        sums = sum_to_same 1048576 _ _ (λ i l. omega (arith, p.step.balanced i)) ∙ sum_to_add 1048576 (owns K m₀.block t) (held m.block)
-
-    pub finished : {s : List Branch} {m : Memory} → Going t.height t.root m₀ s m → s ≡ [] → GivenBack K t m₀ m
-    unfolding remaining
-    finished {s} {m} i e =
-        let v = subst (λ (x : List Branch). Clearing t.height t.root m₀ i.0 x m) e i.1 in
-        given_by m (record {
-          step = give_end K _ m₀.block i.0 m.block v.giving;
-          number = omega (arith, v.number, lies.number);
-          asks = omega (arith, v.asks);
-          top = v.top;
-          failed = v.failed;
-        })
-
-    -- a tree without blocks
-    pub nothing : t.height ≡ 0 → GivenBack K t m₀ m₀
-    unfolding tall_blocks tall_uses
-    nothing e = given_by m₀ (rw e (ran_none (λ c. 0) m₀))
+      pub next_going : Going K H r m₀ s₃ m₂ × (m₂.left < m.left)
+      next_going = down i.0 here

@@ -10,7 +10,7 @@ use store::Store;
 use store::words::{load, store};
 use tree::reads::entry_word;
 
-// The words of entry i of the page at block b, and 0 behind them.
+// The words of entry i of the page at block b.
 pub fn load_entry<C: Codec, W: Store<M>, M>(m: &mut M, b: u32, i: u32) -> [u64; WORDS]
     requires asks { C.Codec.width ≤ (W.Store.memory m.old).left }
     requires there { Stored (W.Store.memory m.old).block b }

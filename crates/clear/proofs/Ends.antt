@@ -19,6 +19,14 @@ use Rattle.clear.specs.Visits.{GoneDown}
 use Rattle.clear.proofs.Low.{tall_used}
 use Rattle.clear.proofs.Clearing.{held_less, Clearing, Going}
 
+-- what is given back is held no more
+pub fewer : (k : ℕ) (u : ℕ → ℕ) (m m' : Memory) → Ran k u (λ c. 0) m m' → m'.many + sum_to 1048576 u ≡ m.many
+fewer k u m m' r =
+    let e : held_in m.block ≡ sum_to 1048576 u + held_in m'.block =
+    sum_to_same 1048576 (λ c. u c + held m'.block c) (held m.block) (λ c l. omega (arith, r.step.balanced c))
+    ∙ sum_to_add 1048576 u (held m'.block) in
+    omega (arith, r.number)
+
 -- a leaf was given back, and nothing is to do
 leaf_given : {E : Type 0} (K : Layout E) {f : Mem} (r : ℕ) → Stored f r → Giving K (uses K 0 f r) f 0 [] (at r [] f)
 unfolding uses to_do Pending
@@ -65,10 +73,7 @@ module _ {E : Type 0} {K : Layout E} {t : Tree} {m₀ : Memory} (lies : Lies K m
 
   -- the end: what was given back is as many blocks as the tree had
   given_by : (m : Memory) → Ran (give_asks * tall_blocks K t.height m₀.block t.root) (owns K m₀.block t) (λ c. 0) m₀ m → GivenBack K t m₀ m
-  given_by m p = record { ran = p; many = omega (arith, p.number, sums, tall_used K t.height m₀.block t.root lies.stands, lies.number) }
-    where
-      sums : held_in m₀.block ≡ sum_to 1048576 (owns K m₀.block t) + held_in m.block
-      sums = sum_to_same 1048576 _ _ (λ i l. omega (arith, p.step.balanced i)) ∙ sum_to_add 1048576 (owns K m₀.block t) (held m.block)
+  given_by m p = record { ran = p; many = omega (arith, fewer _ _ m₀ m p, tall_used K t.height m₀.block t.root lies.stands) }
 
   pub finished : {s : List Branch} {m : Memory} → Going K t.height t.root m₀ s m → s ≡ [] → GivenBack K t m₀ m
   unfolding remaining

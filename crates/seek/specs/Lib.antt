@@ -1,4 +1,3 @@
 pub mod Asks
 pub mod Descent
-pub mod Items
 pub mod Chosen

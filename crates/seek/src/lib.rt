@@ -3,11 +3,7 @@
 
 mod choose;
 pub mod descend;
-mod entry;
-pub mod items;
-pub mod nodes;
-pub mod path;
 pub mod reached;
 pub mod size;
 mod step;
-mod words;
+pub mod target;

@@ -6,9 +6,9 @@ ghost use Rattle.tree.specs.Pages.{page_asks, Reading};
 ghost use Rattle.tree.specs.Trees.{holds, Lies};
 ghost use Rattle.seek.specs.Asks.{length_asks};
 
-use tree::reads::{child_count, number_of_children, number_of_entries};
 use page::kind::Kind;
 use store::Store;
+use tree::reads::{child_count, number_of_children, number_of_entries};
 use tree::top::Tree;
 
 // How many items are under the children of the node at block b: the count of each is read, and nothing else.

@@ -1,6 +1,6 @@
 use Rattle.std.proofs.Common.{◌≤◌, length, sym, ap, ◌∙◌, arith}
 use Rattle.page.proofs.Images.{few_entries}
-use Rattle.tree.proofs.Imaged.{first_word}
+use Rattle.tree.proofs.Imaging.{first_word}
 use Rattle.seek.proofs.Readings.{reading_none, reading_asked}
 use Rattle.seek.proofs.Tops.{none_held, top_leaf, top_node, tall_low}
 use Rattle.seek.proofs.size.length.Goals as goal
@@ -15,14 +15,14 @@ returns-then-t-eq0 g c =
 pub number_of_entries-requires : goal.number_of_entries-requires
 number_of_entries-requires g c =
     let w = top_leaf g.K.Kind.layout _ _ _ c.if-t-eq1.true c.requires.lies.stands in
-    (omega (arith, c.requires.asks), w.there)
+    record { asks = omega (arith, c.requires.asks); there = w.there }
 
 pub returns-then-t-eq1 : goal.returns-then-t-eq1
 returns-then-t-eq1 g c =
     let w = top_leaf g.K.Kind.layout _ _ _ c.if-t-eq1.true c.requires.lies.stands in
     record {
-      value = c.number_of_entries.ensures.0 ∙ sym (ap length w.held ∙ first_word g.K.Leaf.Codec.width g.K.Leaf.Codec.decode g.K.Kind.layout.items g.met.K.Kind.leaves _);
-      same = reading_asked _ 1 _ _ (omega arith) c.number_of_entries.ensures.1;
+      value = c.number_of_entries.ensures.value ∙ sym (ap length w.held ∙ first_word g.K.Leaf.Codec.width g.K.Leaf.Codec.decode g.K.Kind.layout.items g.met.K.Kind.leaves _);
+      same = reading_asked _ 1 _ _ (omega arith) c.number_of_entries.ensures.same;
     }
 
 pub total-requires : goal.total-requires

@@ -1,1 +1,3 @@
 pub mod Settling
+pub mod Climbing
+pub mod Crowning

@@ -3,6 +3,7 @@
 use Rattle.std.specs.Prelude.{ℕ, ◌+◌, ◌*◌, ◌/◌}
 use Rattle.store.specs.Reserve.{capacity}
 use Rattle.tree.specs.Pages.{page_asks}
+use Rattle.seek.specs.Asks.{descend_asks}
 use Rattle.tree.specs.Sizes.{top_level}
 
 -- a page is written, or its two halves
@@ -24,3 +25,11 @@ most_blocks = top_level + 2
 -- what is left of the reserve is given back
 abbrev pub rest_asks : ℕ
 rest_asks = capacity
+
+-- down to a leaf, the blocks, a turn for each page of the path, a new root, and the rest
+abbrev pub insert_asks : ℕ
+insert_asks = descend_asks + 2 * most_blocks + (top_level + 1) * turn_asks + page_asks + rest_asks
+
+-- where a block is refused: down to a leaf, and the blocks; two askings count as for one block
+abbrev pub insert_undone : ℕ
+insert_undone = (descend_asks + 1) / 2 + most_blocks

@@ -1,2 +1,4 @@
 pub mod Asks
 pub mod Settle
+pub mod Rises
+pub mod Crown

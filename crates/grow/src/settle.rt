@@ -59,7 +59,7 @@ pub fn settle<L: Level, W: Store<M>, M>(
     requires room { L.Level.most < length page → 0 < length reserve.old }
     requires stocked { Stocked (uses reserve.old) (W.Store.memory m.old).block }
     requires beside { uses reserve.old b ≡ 0 }
-    ensures { Settled L.Level.read L.Level.entry L.Level.most settle_asks b page (W.Store.memory m.old) reserve.old result.first result.second (W.Store.memory m.new) reserve.new }
+    ensures { Settled L.Level.read L.Level.entry L.Level.most settle_asks b page (W.Store.memory m.old) reserve.old result (W.Store.memory m.new) reserve.new }
 {
     if page.len() <= L::most() {
         store_page::<L, W, M>(m, b, &page);

@@ -2,3 +2,4 @@ pub mod Asks
 pub mod Settle
 pub mod Rises
 pub mod Crown
+pub mod Inserted

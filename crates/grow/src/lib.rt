@@ -2,6 +2,7 @@
 #![tactic(auto)]
 
 pub mod climb;
+pub mod insert;
 pub mod leaf;
 pub mod root;
 pub mod settle;

@@ -1,7 +1,7 @@
 -- How often the memory is asked, at most.
 -- Assumes nothing.
 use Rattle.std.specs.Prelude.{ℕ, ◌+◌, ◌*◌, ◌/◌}
-use Rattle.store.specs.Uses.{capacity}
+use Rattle.store.specs.Reserve.{capacity}
 use Rattle.tree.specs.Pages.{page_asks}
 use Rattle.seek.specs.Asks.{descend_asks}
 use Rattle.tree.specs.Sizes.{top_level}

@@ -1,6 +1,7 @@
 // Nodes: their entries are children.
-ghost use Rattle.std.specs.Prelude.{◌≡◌, ◌+◌, ◌^◌, ◌<◌, ◌≤◌, T};
+ghost use Rattle.std.specs.Prelude.{◌≡◌, ◌+◌, ◌^◌, ◌<◌, ◌≤◌, T, refl};
 ghost use Rattle.page.specs.Layout.{counts, entry_of};
+ghost use Rattle.page.specs.Readers.{counts_add};
 ghost use Rattle.std.proofs.Common.{rules};
 
 use super::Level;
@@ -31,6 +32,10 @@ impl<K: Kind> Level for Nodes<K> {
     ghost fits = { K.nodeFits };
 
     ghost wide = { Prim.search rules };
+
+    ghost adds = { counts_add };
+
+    ghost placed = { λ _ _. refl };
 
     fn most() -> usize {
         K::node_cap()

@@ -1,5 +1,5 @@
 -- The account over all names: it is kept when what is under one name, or two, changes and all else is left alone.
-use Rattle.std.proofs.Common.{◌≡◌, ℕ, zero, suc, ◌+◌, ◌<◌, ◌≤◌, length, set, sym, refl, ap, ◌∙◌, inl, inr, arith}
+use Rattle.std.proofs.Common.{◌≡◌, ℕ, zero, suc, ◌+◌, ◌<◌, ◌≤◌, length, set, Option, sym, refl, ap, ◌∙◌, inl, inr, arith}
 use mathlib.Core.Path.{fun_ext, subst⁻¹}
 use native.Mathlib.Decide.{ℕ_discrete}
 use Rattle.std.proofs.lemmas.Bool.{eq-eqb, ne_eqb}
@@ -7,7 +7,7 @@ use Rattle.std.proofs.lemmas.Bool.Decides.{leb_tells}
 use Rattle.store.specs.Steps.{Step, held_in, sum_to}
 use Rattle.store.proofs.Sums.{sum_to_one, sum_to_two, at_sum_to}
 use Rattle.store.proofs.Stepping.{step_same}
-use Rattle.things.specs.declared.state.Slot.{Slot}
+use Rattle.things.specs.declared.state.Kept.{Kept}
 use Rattle.things.specs.declared.state.Things.{Things}
 use Rattle.things.specs.Things.{Thing, Shelf, put}
 use Rattle.things.specs.State.{Words, Whole, Parts, Sound, thing, shelf_of, slot_of, slot_uses, SlotStands}
@@ -55,7 +55,7 @@ pub record Settled (s : Things) (f : Words) (many : ℕ) (v : Shelf) : Type 0 wh
   pub sound : Sound s f many
   pub shelf : shelf_of s f ≡ v
 
-module _ (s s' : Things) (f f' : Words) (m m' n : ℕ) (x : Slot) (h : Sound s f m) (low : n < 256) (e : s'.slots ≡ set s.slots n x)
+module _ (s s' : Things) (f f' : Words) (m m' n : ℕ) (x : Option Kept) (h : Sound s f m) (low : n < 256) (e : s'.slots ≡ set s.slots n x)
     (st : Step (slot_uses f (slot_of s n)) (slot_uses f' x) f f') (ok : SlotStands f' x) (num : m' + held_in f ≡ m + held_in f') where
   one_kept : (k : ℕ) → k < 256 → (k ≡ n → ⊥) → SlotKept f f' (slot_of s k)
   unfolding Whole
@@ -100,7 +100,7 @@ module _ (s s' : Things) (f f' : Words) (m m' n : ℕ) (x : Slot) (h : Sound s f
   unfolding Whole
   one_name = record { sound = record { whole = one_parts }; shelf = fun_ext one_shelf }
 
-module _ (s s' : Things) (f f' : Words) (m m' n j : ℕ) (x y : Slot) (h : Sound s f m) (low : n < 256) (low' : j < 256) (apart : n ≡ j → ⊥)
+module _ (s s' : Things) (f f' : Words) (m m' n j : ℕ) (x y : Option Kept) (h : Sound s f m) (low : n < 256) (low' : j < 256) (apart : n ≡ j → ⊥)
     (e : s'.slots ≡ set (set s.slots n x) j y)
     (st : Step (λ c. slot_uses f (slot_of s n) c + slot_uses f (slot_of s j) c) (λ c. slot_uses f' x c + slot_uses f' y c) f f')
     (ok : SlotStands f' x) (ok' : SlotStands f' y) (num : m' + held_in f ≡ m + held_in f') where

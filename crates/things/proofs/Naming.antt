@@ -1,12 +1,12 @@
 -- What a name gives, and what a call on it then comes to.
-use Rattle.std.proofs.Common.{◌≡◌, ℕ, suc, ◌+◌, ◌<◌, ◌≤◌, [], ◌∷◌, ◌++◌, length, get_or, take, drop, set, Ok, Err, arith}
+use Rattle.std.proofs.Common.{◌≡◌, ℕ, suc, ◌+◌, ◌<◌, ◌≤◌, [], ◌∷◌, ◌++◌, length, get_or, take, drop, set, Some, None, Ok, Err, arith}
 use Rattle.std.proofs.lemmas.Bool.Decides.{nat_tests}
 use Rattle.tree.specs.declared.top.Tree.{Tree}
 use Rattle.things.specs.declared.Op.TheVariants.{Row, Table, Free, Length, At, Set, Insert, Delete}
 use Rattle.things.specs.declared.Answer.TheVariants.{Done, Word, No}
 use Rattle.things.specs.declared.reason.Reason.{Reason}
-use Rattle.things.specs.declared.state.Slot.{Slot}
-use Rattle.things.specs.declared.state.Slot.TheVariants as slot
+use Rattle.things.specs.declared.state.Kept.{Kept}
+use Rattle.things.specs.declared.state.Kept.TheVariants as kept
 use Rattle.things.specs.declared.state.Things.{Things}
 use Rattle.things.specs.Names.{found, row_at, table_at, vacant}
 use Rattle.things.specs.Reasons.{refusal}
@@ -14,7 +14,7 @@ use Rattle.things.specs.Things.{Nothing, ARow, ATable, out, put, does, is_nothin
 use Rattle.things.specs.State.{Words, shelf_of, slot_of, words_in, pairs_in}
 
 -- a name at which something is found is one of the 256
-pub found_low : (n : ℕ) (s : Things) {x : Slot} → Ok x ≡ found n s → n < 256
+pub found_low : (n : ℕ) (s : Things) {x : Kept} → Ok x ≡ found n s → n < 256
 found_low n s h = grind (arith, nat_tests)
 
 pub row_low : (n : ℕ) (s : Things) {t : Tree} → Ok t ≡ row_at n s → n < 256
@@ -27,19 +27,16 @@ pub vacant_low : (n : ℕ) (s : Things) {u : Unit {0}} → Ok u ≡ vacant n s �
 vacant_low n s h = grind (arith, nat_tests)
 
 -- and what is there
-pub found_slot : (n : ℕ) (s : Things) {x : Slot} → Ok x ≡ found n s → slot_of s n ≡ x
+pub found_slot : (n : ℕ) (s : Things) {x : Kept} → Ok x ≡ found n s → slot_of s n ≡ Some x
 found_slot n s h = grind (arith, nat_tests)
 
-pub found_some : (n : ℕ) (s : Things) {x : Slot} → Ok x ≡ found n s → x ≡ slot.Nothing → ⊥
-found_some n s h e = grind (arith, nat_tests)
-
-pub row_slot : (n : ℕ) (s : Things) {t : Tree} → Ok t ≡ row_at n s → slot_of s n ≡ slot.Row t
+pub row_slot : (n : ℕ) (s : Things) {t : Tree} → Ok t ≡ row_at n s → slot_of s n ≡ Some (kept.Row t)
 row_slot n s h = grind (arith, nat_tests)
 
-pub table_slot : (n : ℕ) (s : Things) {t : Tree} → Ok t ≡ table_at n s → slot_of s n ≡ slot.Table t
+pub table_slot : (n : ℕ) (s : Things) {t : Tree} → Ok t ≡ table_at n s → slot_of s n ≡ Some (kept.Table t)
 table_slot n s h = grind (arith, nat_tests)
 
-pub vacant_slot : (n : ℕ) (s : Things) {u : Unit {0}} → Ok u ≡ vacant n s → slot_of s n ≡ slot.Nothing
+pub vacant_slot : (n : ℕ) (s : Things) {u : Unit {0}} → Ok u ≡ vacant n s → slot_of s n ≡ None
 vacant_slot n s h = grind (arith, nat_tests)
 
 -- what calls come to that are turned away at the name
@@ -84,15 +81,15 @@ pub table_is : (n : ℕ) (s : Things) (f : Words) {u : Unit {0}} → Ok u ≡ va
 unfolding does shelf_of is_nothing
 table_is n s f h = grind (arith, nat_tests)
 
-pub free_is : (n : ℕ) (s : Things) (f : Words) {x : Slot} → Ok x ≡ found n s → does (Free n) (shelf_of s f) ≡ out Done (put n Nothing (shelf_of s f))
+pub free_is : (n : ℕ) (s : Things) (f : Words) {x : Kept} → Ok x ≡ found n s → does (Free n) (shelf_of s f) ≡ out Done (put n Nothing (shelf_of s f))
 unfolding does shelf_of is_nothing
 free_is n s f h = grind (arith, nat_tests)
 
-pub length_of_row : (n : ℕ) (s : Things) (f : Words) {t : Tree} → Ok (slot.Row t) ≡ found n s → does (Length n) (shelf_of s f) ≡ out (Word (length (words_in t f) + 0)) (shelf_of s f)
+pub length_of_row : (n : ℕ) (s : Things) (f : Words) {t : Tree} → Ok (kept.Row t) ≡ found n s → does (Length n) (shelf_of s f) ≡ out (Word (length (words_in t f) + 0)) (shelf_of s f)
 unfolding does shelf_of is_nothing words_of pairs_of
 length_of_row n s f h = grind (arith, nat_tests)
 
-pub length_of_table : (n : ℕ) (s : Things) (f : Words) {t : Tree} → Ok (slot.Table t) ≡ found n s → does (Length n) (shelf_of s f) ≡ out (Word (0 + length (pairs_in t f))) (shelf_of s f)
+pub length_of_table : (n : ℕ) (s : Things) (f : Words) {t : Tree} → Ok (kept.Table t) ≡ found n s → does (Length n) (shelf_of s f) ≡ out (Word (0 + length (pairs_in t f))) (shelf_of s f)
 unfolding does shelf_of is_nothing words_of pairs_of
 length_of_table n s f h = grind (arith, nat_tests)
 

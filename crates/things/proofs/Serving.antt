@@ -1,5 +1,5 @@
 -- From what was done to the tree under a name, and to the ground, to what the call has to leave.
-use Rattle.std.proofs.Common.{◌≡◌, ℕ, suc, ◌+◌, ◌<◌, ◌≤◌, true, not, T, ◌∷◌, ◌++◌, length, get_or, take, drop, set, Ok, Err, sym, refl, ap, ◌∙◌, add-zero, zero-add, arith}
+use Rattle.std.proofs.Common.{◌≡◌, ℕ, suc, ◌+◌, ◌<◌, ◌≤◌, true, not, T, ◌∷◌, ◌++◌, length, get_or, take, drop, set, Option, Some, None, Ok, Err, sym, refl, ap, ◌∙◌, add-zero, zero-add, arith}
 use mathlib.Core.Path.{subst⁻¹}
 use lib.ListN.{length-map}
 use lib.Seq.{set-get_or}
@@ -13,8 +13,8 @@ use Rattle.tree.specs.Trees.{holds, owns, Lies}
 use Rattle.things.specs.declared.Op.TheVariants.{Row, Table, Free, Length, At, Set, Insert, Delete}
 use Rattle.things.specs.declared.Answer.TheVariants.{Done, Word, No, Full}
 use Rattle.things.specs.declared.reason.Reason.{Reason}
-use Rattle.things.specs.declared.state.Slot.{Slot}
-use Rattle.things.specs.declared.state.Slot.TheVariants as slot
+use Rattle.things.specs.declared.state.Kept.{Kept}
+use Rattle.things.specs.declared.state.Kept.TheVariants as kept
 use Rattle.things.specs.declared.state.Things.{Things}
 use Rattle.things.specs.Ground.{Ground}
 use Rattle.things.specs.Bridge.{memory_of}
@@ -34,7 +34,7 @@ abbrev pub empty_tree : Tree
 empty_tree = record { root = 0; height = 0 }
 
 -- what was y under n is x now, and the ground has changed by that alone
-module _ (s s' : Things) (g g' : Ground) (n k : ℕ) (y x : Slot) (h : Sound s g.block g.many) (low : n < 256) (was : slot_of s n ≡ y)
+module _ (s s' : Things) (g g' : Ground) (n k : ℕ) (y x : Option Kept) (h : Sound s g.block g.many) (low : n < 256) (was : slot_of s n ≡ y)
     (e : s'.slots ≡ set s.slots n x) (r : Ran k (slot_uses g.block y) (slot_uses g'.block x) (memory_of g) (memory_of g'))
     (ok : SlotStands g'.block x) where
   pub renewed : Settled s' g'.block g'.many (put n (thing x g'.block) (shelf_of s g.block))
@@ -66,7 +66,7 @@ table_lies n s g {t} h f = slot_table_lies s (memory_of g) n t h (table_low n s 
 
 -- an empty row, or table, is under n
 module _ (n : ℕ) (s s' : Things) (g : Ground) {u : Unit {0}} (h : Sound s g.block g.many) (v : Ok u ≡ vacant n s) where
-  laid_empty : (x : Slot) → s'.slots ≡ set s.slots n x → ((c : ℕ) → slot_uses g.block x c ≡ 0) → SlotStands g.block x
+  laid_empty : (x : Option Kept) → s'.slots ≡ set s.slots n x → ((c : ℕ) → slot_uses g.block x c ≡ 0) → SlotStands g.block x
       → Settled s' g.block g.many (put n (thing x g.block) (shelf_of s g.block))
   laid_empty x e none ok =
       one_name s s' g.block g.block g.many g.many n x h (vacant_low n s v) e
@@ -74,30 +74,24 @@ module _ (n : ℕ) (s s' : Things) (g : Ground) {u : Unit {0}} (h : Sound s g.bl
       (record { balanced = λ c. omega (arith, none c); leaves = λ c l. refl }))
       ok refl
 
-  pub row_served : T (can (Row n)) → s'.slots ≡ set s.slots n (slot.Row empty_tree) → Served (Row n) s g Done s' g
+  pub row_served : T (can (Row n)) → s'.slots ≡ set s.slots n (Some (kept.Row empty_tree)) → Served (Row n) s g Done s' g
   unfolding words_in tall_contents tall_uses Tall
-  row_served built e = served_settled (Row n) built (row_is n s g.block v) (laid_empty (slot.Row empty_tree) e (λ c. refl) tt)
+  row_served built e = served_settled (Row n) built (row_is n s g.block v) (laid_empty (Some (kept.Row empty_tree)) e (λ c. refl) tt)
 
-  pub table_served : T (can (Table n)) → s'.slots ≡ set s.slots n (slot.Table empty_tree) → Served (Table n) s g Done s' g
+  pub table_served : T (can (Table n)) → s'.slots ≡ set s.slots n (Some (kept.Table empty_tree)) → Served (Table n) s g Done s' g
   unfolding pairs_in tall_contents tall_uses Tall
-  table_served built e = served_settled (Table n) built (table_is n s g.block v) (laid_empty (slot.Table empty_tree) e (λ c. refl) tt)
-
--- nothing is under n any more
-pub free_served : (n k : ℕ) (s s' : Things) (g g' : Ground) (x : Slot) → T (can (Free n)) → Sound s g.block g.many → Ok x ≡ found n s
-    → s'.slots ≡ set s.slots n slot.Nothing → Ran k (slot_uses g.block x) (λ c. 0) (memory_of g) (memory_of g') → Served (Free n) s g Done s' g'
-free_served n k s s' g g' x built h f e r =
-    served_settled (Free n) built (free_is n s g.block f) (renewed s s' g g' n k x slot.Nothing h (found_low n s f) (found_slot n s f) e r tt)
+  table_served built e = served_settled (Table n) built (table_is n s g.block v) (laid_empty (Some (kept.Table empty_tree)) e (λ c. refl) tt)
 
 -- how long a row or table is
 module _ (n : ℕ) (s : Things) (g g' : Ground) (t : Tree) (y : ℕ) (built : T (can (Length n))) (h : Sound s g.block g.many) (u : Untouched g g') where
-  pub length_served : Ok (slot.Row t) ≡ found n s → y ≡ length (holds row_layout g.block t) → Served (Length n) s g (Word y) s g'
+  pub length_served : Ok (kept.Row t) ≡ found n s → y ≡ length (holds row_layout g.block t) → Served (Length n) s g (Word y) s g'
   unfolding words_in
   length_served f e =
       served_settled (Length n) built
       (length_of_row n s g.block f ∙ ap (λ j. out (Word j) (shelf_of s g.block)) (add-zero (length (holds row_layout g.block t)) ∙ sym e))
       (left_alone h u)
 
-  pub length_table_served : Ok (slot.Table t) ≡ found n s → y ≡ length (holds table_layout g.block t) → Served (Length n) s g (Word y) s g'
+  pub length_table_served : Ok (kept.Table t) ≡ found n s → y ≡ length (holds table_layout g.block t) → Served (Length n) s g (Word y) s g'
   unfolding pairs_in
   length_table_served f e =
       served_settled (Length n) built
@@ -138,10 +132,10 @@ module _ (n : ℕ) (s : Things) (g g' : Ground) (t : Tree) (h : Sound s g.block 
 
 -- the row t under n has become t'
 module _ (n k : ℕ) (s s' : Things) (g g' : Ground) (t t' : Tree) (h : Sound s g.block g.many) (f : Ok t ≡ row_at n s)
-    (e : s'.slots ≡ set s.slots n (slot.Row t'))
-    (r : Ran k (owns row_layout g.block t) (owns row_layout g'.block t') (memory_of g) (memory_of g')) (ok : SlotStands g'.block (slot.Row t')) where
+    (e : s'.slots ≡ set s.slots n (Some (kept.Row t')))
+    (r : Ran k (owns row_layout g.block t) (owns row_layout g'.block t') (memory_of g) (memory_of g')) (ok : SlotStands g'.block (Some (kept.Row t'))) where
   row_renewed : Settled s' g'.block g'.many (put n (ARow (words_in t' g'.block)) (shelf_of s g.block))
-  row_renewed = renewed s s' g g' n k (slot.Row t) (slot.Row t') h (row_low n s f) (row_slot n s f) e r ok
+  row_renewed = renewed s s' g g' n k (Some (kept.Row t)) (Some (kept.Row t')) h (row_low n s f) (row_slot n s f) e r ok
 
   pub insert_served : (i x : ℕ) → T (can (Insert n i x)) → i ≤ length (holds row_layout g.block t)
       → holds row_layout g'.block t' ≡ take i (holds row_layout g.block t) ++ (x ∷ drop i (holds row_layout g.block t)) → Served (Insert n i x) s g Done s' g'
@@ -170,12 +164,12 @@ module _ (n k : ℕ) (s s' : Things) (g g' : Ground) (t t' : Tree) (h : Sound s 
 -- a word is set in place: the tree is the same, and no slot is laid
 pub set_served : (n k i x : ℕ) (s : Things) (g g' : Ground) (t : Tree) → T (can (Set n i x)) → Sound s g.block g.many → Ok t ≡ row_at n s
     → i < length (holds row_layout g.block t) → holds row_layout g'.block t ≡ set (holds row_layout g.block t) i x
-    → Ran k (owns row_layout g.block t) (owns row_layout g'.block t) (memory_of g) (memory_of g') → SlotStands g'.block (slot.Row t)
+    → Ran k (owns row_layout g.block t) (owns row_layout g'.block t) (memory_of g) (memory_of g') → SlotStands g'.block (Some (kept.Row t))
     → Served (Set n i x) s g Done s g'
 set_served n k i x s g g' t built h f l w r ok = set_laid n k s s g g' t t h f same r ok i x built l w
   where
-    same : s.slots ≡ set s.slots n (slot.Row t)
-    same = sym (set-get_or s.slots n slot.Nothing) ∙ ap (set s.slots n) (row_slot n s f)
+    same : s.slots ≡ set s.slots n (Some (kept.Row t))
+    same = sym (set-get_or s.slots n None) ∙ ap (set s.slots n) (row_slot n s f)
 
 -- calls that are turned away at the name
 module _ (s : Things) (g : Ground) {r : Reason} (n : ℕ) (h : Sound s g.block g.many) where

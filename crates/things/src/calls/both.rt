@@ -5,7 +5,7 @@ ghost use Rattle.things.specs.State.{Ready, Served};
 
 use crate::bridge::Ours;
 use crate::reason::Reason;
-use crate::state::{Slot, Things};
+use crate::state::{Kept, Things};
 use crate::{Blocks, Op};
 use page::{Rows, Tables};
 use seek::size;
@@ -27,9 +27,8 @@ impl Things {
         ensures { Served (Op.Length n) self.old (B.Blocks.as_ground b.old) (told_word result) self.new (B.Blocks.as_ground b.new) }
     {
         match self.find(n)? {
-            Slot::Nothing => Err(Reason::Absent),
-            Slot::Row(t) => Ok(size::length::<Rows, Ours, B>(b, t)),
-            Slot::Table(t) => Ok(size::length::<Tables, Ours, B>(b, t)),
+            Kept::Row(t) => Ok(size::length::<Rows, Ours, B>(b, t)),
+            Kept::Table(t) => Ok(size::length::<Tables, Ours, B>(b, t)),
         }
     }
 }

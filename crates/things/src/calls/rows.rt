@@ -5,7 +5,7 @@ ghost use Rattle.things.specs.State.{Ready, Served};
 
 use crate::bridge::Ours;
 use crate::reason::Reason;
-use crate::state::{EMPTY, Slot, Things};
+use crate::state::{EMPTY, Kept, Things};
 use crate::{Blocks, Op};
 use page::Rows;
 use seek::{items, size};
@@ -17,7 +17,7 @@ impl Things {
         ensures { Served (Op.Row n) self.old (B.Blocks.as_ground b.old) (told_done result) self.new (B.Blocks.as_ground b.new) }
     {
         self.find_vacant(n)?;
-        self.lay(n, Slot::Row(EMPTY));
+        self.lay(n, Kept::Row(EMPTY));
         Ok(())
     }
 
@@ -63,7 +63,7 @@ impl Things {
         }
         match grow::insert::insert::<Rows, Ours, B>(b, t, i, x) {
             Ok(u) => {
-                self.lay(n, Slot::Row(u));
+                self.lay(n, Kept::Row(u));
                 Ok(())
             }
             Err(_) => Err(Reason::NoRoom),
@@ -80,7 +80,7 @@ impl Things {
             return Err(Reason::NoPlace);
         }
         let (u, x) = shrink::delete::delete::<Rows, Ours, B>(b, t, i);
-        self.lay(n, Slot::Row(u));
+        self.lay(n, Kept::Row(u));
         Ok(x)
     }
 

@@ -1,6 +1,6 @@
-use Rattle.std.proofs.Common.{◌≡◌, ℕ, ◌*◌, ◌<◌, ◌≤◌}
+use Rattle.std.proofs.Common.{◌≡◌, ℕ, ◌*◌, ◌<◌, ◌≤◌, None}
 use Rattle.clear.specs.Given.{give_asks}
-use Rattle.things.specs.declared.state.Slot.TheVariants as slot
+use Rattle.things.specs.declared.state.Kept.TheVariants as kept
 use Rattle.things.specs.State.{Sound, slot_of}
 use Rattle.things.proofs.state.Things.close.Given as goal
 
@@ -8,4 +8,4 @@ abbrev pub invariant-loop-n : goal.invariant-loop-n
 invariant-loop-n g l =
     (Sound l.s (g.B.Blocks.as_ground l.b).block (g.B.Blocks.as_ground l.b).many)
     × (give_asks * (g.B.Blocks.as_ground l.b).many ≤ (g.B.Blocks.as_ground l.b).left)
-    × ((k : ℕ) → k < l.n → slot_of l.s k ≡ slot.Nothing)
+    × ((k : ℕ) → k < l.n → slot_of l.s k ≡ None)

@@ -61,13 +61,9 @@ impl Things {
         if i > size::length::<Rows, Ours, B>(b, t) {
             return Err(Reason::NoPlace);
         }
-        match grow::insert::insert::<Rows, Ours, B>(b, t, i, x) {
-            Ok(u) => {
-                self.lay(n, Kept::Row(u));
-                Ok(())
-            }
-            Err(_) => Err(Reason::NoRoom),
-        }
+        let u = grow::insert::insert::<Rows, Ours, B>(b, t, i, x)?;
+        self.lay(n, Kept::Row(u));
+        Ok(())
     }
 
     // The word at i goes, and is told; what stood behind it is one nearer.

@@ -1,7 +1,6 @@
 // Calls on a row or a table.
-ghost use Rattle.std.specs.Prelude.{◌≡◌, ℕ, ◌+◌, ◌*◌, ◌<◌, ◌≤◌};
 ghost use Rattle.things.specs.Reasons.{told_done, told_word};
-ghost use Rattle.things.specs.State.{Ready, Served};
+ghost use Rattle.things.specs.State.{CanFree, CanServe, Served};
 
 use crate::bridge::Ours;
 use crate::reason::Reason;
@@ -13,7 +12,7 @@ use seek::size;
 impl Things {
     // Nothing is under n.
     pub(crate) fn free<B: Blocks>(&mut self, b: &mut B, n: u32) -> Result<(), Reason>
-        requires { Ready (16384 + 128 * (B.Blocks.as_ground b.old).many) 0 self.old (B.Blocks.as_ground b.old) }
+        requires { CanFree self.old (B.Blocks.as_ground b.old) }
         ensures { Served (Op.Free n) self.old (B.Blocks.as_ground b.old) (told_done result) self.new (B.Blocks.as_ground b.new) }
     {
         self.find(n)?;
@@ -23,7 +22,7 @@ impl Things {
 
     // How many words, or pairs.
     pub(crate) fn length<B: Blocks>(&mut self, b: &mut B, n: u32) -> Result<u64, Reason>
-        requires { Ready 16384 64 self.old (B.Blocks.as_ground b.old) }
+        requires { CanServe self.old (B.Blocks.as_ground b.old) }
         ensures { Served (Op.Length n) self.old (B.Blocks.as_ground b.old) (told_word result) self.new (B.Blocks.as_ground b.new) }
     {
         match self.find(n)? {

@@ -1,7 +1,6 @@
 // Calls on rows.
-ghost use Rattle.std.specs.Prelude.{◌≡◌, ℕ, ◌+◌, ◌*◌, ◌<◌, ◌≤◌};
 ghost use Rattle.things.specs.Reasons.{told_done, told_word};
-ghost use Rattle.things.specs.State.{Ready, Served};
+ghost use Rattle.things.specs.State.{CanServe, Served};
 
 use crate::bridge::Ours;
 use crate::reason::Reason;
@@ -13,7 +12,7 @@ use seek::{items, size};
 impl Things {
     // An empty row under n.
     pub(crate) fn row<B: Blocks>(&mut self, b: &mut B, n: u32) -> Result<(), Reason>
-        requires { Ready 16384 64 self.old (B.Blocks.as_ground b.old) }
+        requires { CanServe self.old (B.Blocks.as_ground b.old) }
         ensures { Served (Op.Row n) self.old (B.Blocks.as_ground b.old) (told_done result) self.new (B.Blocks.as_ground b.new) }
     {
         self.find_vacant(n)?;
@@ -23,7 +22,7 @@ impl Things {
 
     // The word at i.
     pub(crate) fn at<B: Blocks>(&mut self, b: &mut B, n: u32, i: u64) -> Result<u64, Reason>
-        requires { Ready 16384 64 self.old (B.Blocks.as_ground b.old) }
+        requires { CanServe self.old (B.Blocks.as_ground b.old) }
         ensures { Served (Op.At n i) self.old (B.Blocks.as_ground b.old) (told_word result) self.new (B.Blocks.as_ground b.new) }
     {
         let t = self.find_row(n)?;
@@ -35,7 +34,7 @@ impl Things {
 
     // The word at i is x.
     pub(crate) fn set<B: Blocks>(&mut self, b: &mut B, n: u32, i: u64, x: u64) -> Result<(), Reason>
-        requires { Ready 16384 64 self.old (B.Blocks.as_ground b.old) }
+        requires { CanServe self.old (B.Blocks.as_ground b.old) }
         ensures { Served (Op.Set n i x) self.old (B.Blocks.as_ground b.old) (told_done result) self.new (B.Blocks.as_ground b.new) }
     {
         let t = self.find_row(n)?;
@@ -54,7 +53,7 @@ impl Things {
         i: u64,
         x: u64,
     ) -> Result<(), Reason>
-        requires { Ready 16384 64 self.old (B.Blocks.as_ground b.old) }
+        requires { CanServe self.old (B.Blocks.as_ground b.old) }
         ensures { Served (Op.Insert n i x) self.old (B.Blocks.as_ground b.old) (told_done result) self.new (B.Blocks.as_ground b.new) }
     {
         let t = self.find_row(n)?;
@@ -68,7 +67,7 @@ impl Things {
 
     // The word at i goes, and is told; what stood behind it is one nearer.
     pub(crate) fn delete<B: Blocks>(&mut self, b: &mut B, n: u32, i: u64) -> Result<u64, Reason>
-        requires { Ready 16384 64 self.old (B.Blocks.as_ground b.old) }
+        requires { CanServe self.old (B.Blocks.as_ground b.old) }
         ensures { Served (Op.Delete n i) self.old (B.Blocks.as_ground b.old) (told_word result) self.new (B.Blocks.as_ground b.new) }
     {
         let t = self.find_row(n)?;
@@ -88,7 +87,7 @@ impl Things {
         i: u64,
         m: u32,
     ) -> Result<(), Reason>
-        requires { Ready 16384 64 self.old (B.Blocks.as_ground b.old) }
+        requires { CanServe self.old (B.Blocks.as_ground b.old) }
         ensures { Served (Op.Split n i m) self.old (B.Blocks.as_ground b.old) (told_done result) self.new (B.Blocks.as_ground b.new) }
     {
         Err(Reason::NotBuilt)
@@ -96,7 +95,7 @@ impl Things {
 
     // m's words stand behind n's; nothing is under m.
     pub(crate) fn join<B: Blocks>(&mut self, b: &mut B, n: u32, m: u32) -> Result<(), Reason>
-        requires { Ready 16384 64 self.old (B.Blocks.as_ground b.old) }
+        requires { CanServe self.old (B.Blocks.as_ground b.old) }
         ensures { Served (Op.Join n m) self.old (B.Blocks.as_ground b.old) (told_done result) self.new (B.Blocks.as_ground b.new) }
     {
         Err(Reason::NotBuilt)

@@ -6,6 +6,6 @@ use Rattle.things.proofs.state.Things.close.Given as goal
 
 abbrev pub invariant-loop-n : goal.invariant-loop-n
 invariant-loop-n g l =
-    (Sound l.s (g.B.Blocks.as_ground l.b).block (g.B.Blocks.as_ground l.b).many)
+    (Sound l.self (g.B.Blocks.as_ground l.b).block (g.B.Blocks.as_ground l.b).many)
     × (give_asks * (g.B.Blocks.as_ground l.b).many ≤ (g.B.Blocks.as_ground l.b).left)
-    × ((k : ℕ) → k < l.n → slot_of l.s k ≡ None)
+    × ((k : ℕ) → k < l.n → slot_of l.self k ≡ None)

@@ -1,13 +1,13 @@
 -- What lies under a name, or why it can't be had.
 -- Assumes nothing.
-use Rattle.std.specs.Prelude.{ℕ, cond, Option, Some, None, Ok, Err, Result, nat_le}
+use Rattle.std.specs.Prelude.{ℕ, cond, Option, Some, None, Ok, Err, Result, length, nat_le, nat_lt}
 use Rattle.tree.specs.declared.top.Tree.{Tree}
 use Rattle.things.specs.declared.reason.Reason.{Reason}
 use Rattle.things.specs.declared.reason.Reason.TheVariants as reason
 use Rattle.things.specs.declared.state.Kept.{Kept}
 use Rattle.things.specs.declared.state.Kept.TheVariants as kept
 use Rattle.things.specs.declared.state.Things.{Things}
-use Rattle.things.specs.State.{names, slot_of}
+use Rattle.things.specs.State.{Words, words_in, names, slot_of}
 
 abbrev pub any_here : Option Kept → Result Kept Reason
 any_here None = Err reason.Absent
@@ -22,6 +22,12 @@ abbrev pub table_here : Option Kept → Result Tree Reason
 table_here None = Err reason.Absent
 table_here (Some (kept.Row t)) = Err reason.OtherKind
 table_here (Some (kept.Table t)) = Ok t
+
+-- a row that has a place i
+abbrev pub place_here : ℕ → Words → Option Kept → Result Tree Reason
+place_here i f None = Err reason.Absent
+place_here i f (Some (kept.Row t)) = cond (nat_lt i (length (words_in t f))) (Ok t) (Err reason.NoPlace)
+place_here i f (Some (kept.Table t)) = Err reason.OtherKind
 
 abbrev pub none_here : Option Kept → Result (Unit {0}) Reason
 none_here None = Ok tt
@@ -42,6 +48,9 @@ row_at = at_name row_here
 
 abbrev pub table_at : ℕ → Things → Result Tree Reason
 table_at = at_name table_here
+
+abbrev pub place_at : ℕ → ℕ → Things → Words → Result Tree Reason
+place_at n i s f = at_name (place_here i f) n s
 
 abbrev pub vacant : ℕ → Things → Result (Unit {0}) Reason
 vacant = at_name none_here

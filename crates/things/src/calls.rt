@@ -1,4 +1,5 @@
 // The calls, a method each.
 mod both;
+mod place;
 mod rows;
 mod tables;

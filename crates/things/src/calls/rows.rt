@@ -25,10 +25,7 @@ impl Things {
         requires { CanServe self.old (B.Blocks.as_ground b.old) }
         ensures { Served (Op.At n i) self.old (B.Blocks.as_ground b.old) (told_word result) self.new (B.Blocks.as_ground b.new) }
     {
-        let t = self.find_row(n)?;
-        if i >= size::length::<Rows, Ours, B>(b, t) {
-            return Err(Reason::NoPlace);
-        }
+        let t = self.find_place(b, n, i)?;
         Ok(items::at::<Rows, Ours, B>(b, t, i))
     }
 
@@ -37,10 +34,7 @@ impl Things {
         requires { CanServe self.old (B.Blocks.as_ground b.old) }
         ensures { Served (Op.Set n i x) self.old (B.Blocks.as_ground b.old) (told_done result) self.new (B.Blocks.as_ground b.new) }
     {
-        let t = self.find_row(n)?;
-        if i >= size::length::<Rows, Ours, B>(b, t) {
-            return Err(Reason::NoPlace);
-        }
+        let t = self.find_place(b, n, i)?;
         items::set::<Rows, Ours, B>(b, t, i, x);
         Ok(())
     }
@@ -70,10 +64,7 @@ impl Things {
         requires { CanServe self.old (B.Blocks.as_ground b.old) }
         ensures { Served (Op.Delete n i) self.old (B.Blocks.as_ground b.old) (told_word result) self.new (B.Blocks.as_ground b.new) }
     {
-        let t = self.find_row(n)?;
-        if i >= size::length::<Rows, Ours, B>(b, t) {
-            return Err(Reason::NoPlace);
-        }
+        let t = self.find_place(b, n, i)?;
         let (u, x) = shrink::delete::delete::<Rows, Ours, B>(b, t, i);
         self.lay(n, Kept::Row(u));
         Ok(x)

@@ -1,6 +1,5 @@
 use Rattle.std.proofs.Common.{◌≡◌, ℕ, ◌*◌, ◌<◌, ◌≤◌, None}
 use Rattle.clear.specs.Given.{give_asks}
-use Rattle.things.specs.declared.state.Kept.TheVariants as kept
 use Rattle.things.specs.State.{Sound, slot_of}
 use Rattle.things.proofs.state.Things.close.Given as goal
 

@@ -2,21 +2,24 @@ use Rattle.std.proofs.Common.{Some, Ok, sym, ap, ◌∙◌, arith}
 use Rattle.std.proofs.lemmas.Result.{err_from_is_err_and}
 use Rattle.things.proofs.Grounds.{read_untouched}
 use Rattle.things.proofs.Shelves.{slot_lies, slot_table_lies}
-use Rattle.things.proofs.Naming.{found_low, found_slot}
-use Rattle.things.proofs.Serving.{length_served, length_table_served, length_turned}
+use Rattle.things.specs.declared.Op.TheVariants.{Length}
+use Rattle.things.specs.Names.{any_here}
+use Rattle.things.proofs.Rules.{unchanged}
+use Rattle.things.proofs.Naming.{low, found_slot, length_refused}
+use Rattle.things.proofs.Serving.{length_served, length_table_served}
 use Rattle.things.proofs.state.Things.length.Goals as goal
 
 pub returns-in_err-t : goal.returns-in_err-t
 returns-in_err-t g c =
     let p = err_from_is_err_and c.from_residual.result c.from_residual.ensures.1 in
-    rw (p.1, p.2) (length_turned c.args.self.now _ c.args.n c.requires.sound tt c.in_err-t.ensures)
+    rw (p.1, p.2) (unchanged (Length c.args.n) tt (length_refused c.args.n c.args.self.now _ c.in_err-t.ensures) c.requires.sound)
 
 pub length-requires : goal.length-requires
 length-requires g c =
     let f = c.in_ok-t.ensures in
     let s = c.args.self.now in
     record {
-      lies = slot_lies s _ c.args.n c.in-Row.t c.requires.sound (found_low c.args.n s f) (found_slot c.args.n s f ∙ ap Some c.in-Row.is);
+      lies = slot_lies s _ c.args.n c.in-Row.t c.requires.sound (low any_here c.args.n s f) (found_slot c.args.n s f ∙ ap Some c.in-Row.is);
       asks = omega (arith, c.requires.enough);
     }
 
@@ -25,7 +28,7 @@ length-requires-in-Table g c =
     let f = c.in_ok-t.ensures in
     let s = c.args.self.now in
     record {
-      lies = slot_table_lies s _ c.args.n c.in-Table.t c.requires.sound (found_low c.args.n s f) (found_slot c.args.n s f ∙ ap Some c.in-Table.is);
+      lies = slot_table_lies s _ c.args.n c.in-Table.t c.requires.sound (low any_here c.args.n s f) (found_slot c.args.n s f ∙ ap Some c.in-Table.is);
       asks = omega (arith, c.requires.enough);
     }
 

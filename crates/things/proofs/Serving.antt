@@ -60,7 +60,7 @@ ready_after {k} {asks} {room} {s} {g} {g'} y r =
 
 -- the tree of a row that was found
 pub row_lies : (n : ℕ) (s : Things) (g : Ground) {t : Tree} → Sound s g.block g.many → Ok t ≡ row_at n s → Lies row_layout (memory_of g) t
-row_lies n s g {t} h f = slot_lies s (memory_of g) n t h (low row_here n s f) (row_slot n s f)
+row_lies n s g {t} h f = slot_lies s (memory_of g) n h (low row_here n s f) (Some (kept.Row t)) (row_slot n s f)
 
 -- how often may still be asked when the length of a row was looked up
 abbrev pub rest_asks : ℕ

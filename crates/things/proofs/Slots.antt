@@ -1,6 +1,7 @@
 -- What is under one name: it depends on its blocks, and has no more of them than it may.
-use Rattle.std.proofs.Common.{◌≡◌, ℕ, zero, suc, ◌+◌, ◌/◌, ◌<◌, ◌≤◌, List, [], ◌∷◌, map, length, get_or, set, Option, Some, None, refl, ap, ◌∙◌, arith, length-set, get_or-set_other, get_or-set_same}
+use Rattle.std.proofs.Common.{◌≡◌, ℕ, zero, suc, ◌+◌, ◌/◌, ◌<◌, ◌≤◌, map, length, set, Option, Some, None, refl, ap, ◌∙◌, arith, length-set, get_or-set_other, get_or-set_same}
 use lib.ListN.{length-map}
+use Rattle.std.proofs.lemmas.List.{get_or_past}
 use Rattle.page.specs.Layout.{Layout}
 use Rattle.page.specs.Kinds.{row_layout, table_layout}
 use Rattle.store.specs.Steps.{Mem, Same, sum_to}
@@ -15,7 +16,7 @@ use Rattle.things.specs.declared.state.Kept.{Kept}
 use Rattle.things.specs.declared.state.Kept.TheVariants as kept
 use Rattle.things.specs.declared.state.Things.{Things}
 use Rattle.things.specs.Things.{ARow, ATable, weight}
-use Rattle.things.specs.State.{Words, words_in, pairs_in, two, thing, slot_of, slot_uses, slot_blocks, SlotStands}
+use Rattle.things.specs.State.{names, Words, words_in, pairs_in, two, thing, slot_of, slot_uses, slot_blocks, SlotStands}
 
 pub record SlotKept (f f' : Words) (x : Option Kept) : Type 0 where
   pub same_thing : thing x f' ≡ thing x f
@@ -62,11 +63,6 @@ module _ (s s' : Things) (n : ℕ) (x : Option Kept) (e : s'.slots ≡ set s.slo
   pub laid_other : (k : ℕ) → (k ≡ n → ⊥) → slot_of s' k ≡ slot_of s k
   laid_other k d = rw e (get_or-set_other s.slots n k x None d)
 
-get_d_past : (xs : List (Option Kept)) (n : ℕ) → length xs ≤ n → get_or xs n None ≡ None
-get_d_past [] n l = refl
-get_d_past (x ∷ xs) zero l = absurd (omega arith)
-get_d_past (x ∷ xs) (suc n) l = get_d_past xs n (omega arith)
-
 -- past the names is nothing
-pub slot_past : (s : Things) (n : ℕ) → length s.slots ≡ 256 → 256 ≤ n → slot_of s n ≡ None
-slot_past s n e l = get_d_past s.slots n (omega arith)
+pub slot_past : (s : Things) (n : ℕ) → length s.slots ≡ names → names ≤ n → slot_of s n ≡ None
+slot_past s n e l = get_or_past s.slots n None (omega arith)

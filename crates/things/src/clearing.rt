@@ -1,9 +1,8 @@
 // What is under a name is given back.
-ghost use Rattle.std.specs.Prelude.{◌≡◌, ℕ, ◌+◌, ◌*◌, ◌<◌, ◌≤◌, Some};
+ghost use Rattle.std.specs.Prelude.{◌*◌, ◌<◌, ◌≤◌, Some};
 ghost use Rattle.clear.specs.Given.{give_asks};
-ghost use Rattle.store.specs.Steps.{Ran};
 ghost use Rattle.things.specs.Bridge.{memory_of};
-ghost use Rattle.things.specs.State.{Sound, SlotLies, Cleared, names, slot_uses, slot_blocks};
+ghost use Rattle.things.specs.State.{Sound, SlotGiven, SlotLies, Cleared, names, slot_blocks};
 
 use crate::Blocks;
 use crate::bridge::Ours;
@@ -15,7 +14,7 @@ use page::{Rows, Tables};
 fn give_kept<B: Blocks>(b: &mut B, x: Kept)
     requires lies { SlotLies (memory_of (B.Blocks.as_ground b.old)) (Some x) }
     requires asks { give_asks * slot_blocks (B.Blocks.as_ground b.old).block (Some x) ≤ (B.Blocks.as_ground b.old).left }
-    ensures { Ran (give_asks * slot_blocks (B.Blocks.as_ground b.old).block (Some x)) (slot_uses (B.Blocks.as_ground b.old).block (Some x)) (λ c. 0) (memory_of (B.Blocks.as_ground b.old)) (memory_of (B.Blocks.as_ground b.new)) }
+    ensures { SlotGiven (Some x) (memory_of (B.Blocks.as_ground b.old)) (memory_of (B.Blocks.as_ground b.new)) }
 {
     match x {
         Kept::Row(t) => give_back::<Rows, Ours, B>(b, t),

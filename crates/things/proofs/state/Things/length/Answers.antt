@@ -1,8 +1,9 @@
-use Rattle.std.proofs.Common.{Some, Ok, sym, ap, ◌∙◌, arith}
+use Rattle.std.proofs.Common.{Some, Ok, sym, ap, ◌∙◌}
 use Rattle.std.proofs.lemmas.Result.{err_from_is_err_and}
 use Rattle.things.proofs.Grounds.{read_untouched}
-use Rattle.things.proofs.Shelves.{slot_lies, slot_table_lies}
+use Rattle.things.proofs.Shelves.{slot_lies}
 use Rattle.things.specs.declared.Op.TheVariants.{Length}
+use Rattle.things.specs.declared.state.Kept.TheVariants as kept
 use Rattle.things.specs.Names.{any_here}
 use Rattle.things.proofs.Rules.{unchanged}
 use Rattle.things.proofs.Naming.{low, found_slot, length_refused}
@@ -14,23 +15,17 @@ returns-in_err-t g c =
     let p = err_from_is_err_and c.from_residual.result c.from_residual.ensures.1 in
     rw (p.1, p.2) (unchanged (Length c.args.n) tt (length_refused c.args.n c.args.self.now _ c.in_err-t.ensures) c.requires.sound)
 
-pub length-requires : goal.length-requires
-length-requires g c =
+pub length-requires-clause-lies : goal.length-requires-clause-lies
+length-requires-clause-lies g c =
     let f = c.in_ok-t.ensures in
-    let s = c.args.self.now in
-    record {
-      lies = slot_lies s _ c.args.n c.in-Row.t c.requires.sound (low any_here c.args.n s f) (found_slot c.args.n s f ∙ ap Some c.in-Row.is);
-      asks = omega (arith, c.requires.enough);
-    }
+    slot_lies c.args.self.now _ c.args.n c.requires.sound (low any_here c.args.n c.args.self.now f) (Some (kept.Row c.in-Row.t))
+    (found_slot c.args.n c.args.self.now f ∙ ap Some c.in-Row.is)
 
-pub length-requires-in-Table : goal.length-requires-in-Table
-length-requires-in-Table g c =
+pub length-requires-in-Table-clause-lies : goal.length-requires-in-Table-clause-lies
+length-requires-in-Table-clause-lies g c =
     let f = c.in_ok-t.ensures in
-    let s = c.args.self.now in
-    record {
-      lies = slot_table_lies s _ c.args.n c.in-Table.t c.requires.sound (low any_here c.args.n s f) (found_slot c.args.n s f ∙ ap Some c.in-Table.is);
-      asks = omega (arith, c.requires.enough);
-    }
+    slot_lies c.args.self.now _ c.args.n c.requires.sound (low any_here c.args.n c.args.self.now f) (Some (kept.Table c.in-Table.t))
+    (found_slot c.args.n c.args.self.now f ∙ ap Some c.in-Table.is)
 
 pub returns-in-Row : goal.returns-in-Row
 returns-in-Row g c =

@@ -4,7 +4,7 @@ ghost use Rattle.things.specs.Names.{found, row_at, slot_at, table_at, vacant};
 ghost use Rattle.things.specs.State.{names, slot_of};
 
 use crate::reason::Reason;
-use crate::state::{Kept, NAMES, Things};
+use crate::state::{Kept, Things};
 use tree::top::Tree;
 
 impl Things {
@@ -12,10 +12,7 @@ impl Things {
     fn slot(&self, n: u32) -> Result<Option<Kept>, Reason>
         ensures { result ≡ slot_at n self.now }
     {
-        if n as usize >= NAMES {
-            return Err(Reason::NoName);
-        }
-        Ok(self.slots[n as usize])
+        self.slots.get(n as usize).copied().ok_or(Reason::NoName)
     }
 
     // What is under n, where something is.

@@ -21,9 +21,9 @@ impl Things {
     }
 
     // How many words, or pairs.
-    pub(crate) fn length<B: Blocks>(&mut self, b: &mut B, n: u32) -> Result<u64, Reason>
-        requires { CanServe self.old (B.Blocks.as_ground b.old) }
-        ensures { Served (Op.Length n) self.old (B.Blocks.as_ground b.old) (told_word result) self.new (B.Blocks.as_ground b.new) }
+    pub(crate) fn length<B: Blocks>(&self, b: &mut B, n: u32) -> Result<u64, Reason>
+        requires { CanServe self.now (B.Blocks.as_ground b.old) }
+        ensures { Served (Op.Length n) self.now (B.Blocks.as_ground b.old) (told_word result) self.now (B.Blocks.as_ground b.new) }
     {
         match self.find(n)? {
             Kept::Row(t) => Ok(size::length::<Rows, Ours, B>(b, t)),

@@ -21,9 +21,9 @@ impl Things {
     }
 
     // The word at i.
-    pub(crate) fn at<B: Blocks>(&mut self, b: &mut B, n: u32, i: u64) -> Result<u64, Reason>
-        requires { CanServe self.old (B.Blocks.as_ground b.old) }
-        ensures { Served (Op.At n i) self.old (B.Blocks.as_ground b.old) (told_word result) self.new (B.Blocks.as_ground b.new) }
+    pub(crate) fn at<B: Blocks>(&self, b: &mut B, n: u32, i: u64) -> Result<u64, Reason>
+        requires { CanServe self.now (B.Blocks.as_ground b.old) }
+        ensures { Served (Op.At n i) self.now (B.Blocks.as_ground b.old) (told_word result) self.now (B.Blocks.as_ground b.new) }
     {
         let t = self.find_place(b, n, i)?;
         Ok(items::at::<Rows, Ours, B>(b, t, i))

@@ -24,9 +24,9 @@ impl Things {
     }
 
     // The word of the key k.
-    pub(crate) fn get<B: Blocks>(&mut self, b: &mut B, n: u32, k: u64) -> Result<u64, Reason>
-        requires { CanServe self.old (B.Blocks.as_ground b.old) }
-        ensures { Served (Op.Get n k) self.old (B.Blocks.as_ground b.old) (told_word result) self.new (B.Blocks.as_ground b.new) }
+    pub(crate) fn get<B: Blocks>(&self, b: &mut B, n: u32, k: u64) -> Result<u64, Reason>
+        requires { CanServe self.now (B.Blocks.as_ground b.old) }
+        ensures { Served (Op.Get n k) self.now (B.Blocks.as_ground b.old) (told_word result) self.now (B.Blocks.as_ground b.new) }
     {
         Err(Reason::NotBuilt)
     }
@@ -41,29 +41,29 @@ impl Things {
 
     // The first pair with a key of k or more.
     pub(crate) fn least<B: Blocks>(
-        &mut self,
+        &self,
         b: &mut B,
         n: u32,
         k: u64,
     ) -> Result<(u64, u64), Reason>
-        requires { CanServe self.old (B.Blocks.as_ground b.old) }
-        ensures { Served (Op.Least n k) self.old (B.Blocks.as_ground b.old) (told_pair result) self.new (B.Blocks.as_ground b.new) }
+        requires { CanServe self.now (B.Blocks.as_ground b.old) }
+        ensures { Served (Op.Least n k) self.now (B.Blocks.as_ground b.old) (told_pair result) self.now (B.Blocks.as_ground b.new) }
     {
         Err(Reason::NotBuilt)
     }
 
     // How many keys are below k.
-    pub(crate) fn count<B: Blocks>(&mut self, b: &mut B, n: u32, k: u64) -> Result<u64, Reason>
-        requires { CanServe self.old (B.Blocks.as_ground b.old) }
-        ensures { Served (Op.Count n k) self.old (B.Blocks.as_ground b.old) (told_word result) self.new (B.Blocks.as_ground b.new) }
+    pub(crate) fn count<B: Blocks>(&self, b: &mut B, n: u32, k: u64) -> Result<u64, Reason>
+        requires { CanServe self.now (B.Blocks.as_ground b.old) }
+        ensures { Served (Op.Count n k) self.now (B.Blocks.as_ground b.old) (told_word result) self.now (B.Blocks.as_ground b.new) }
     {
         Err(Reason::NotBuilt)
     }
 
     // The pair at i, from 0.
-    pub(crate) fn nth<B: Blocks>(&mut self, b: &mut B, n: u32, i: u64) -> Result<(u64, u64), Reason>
-        requires { CanServe self.old (B.Blocks.as_ground b.old) }
-        ensures { Served (Op.Nth n i) self.old (B.Blocks.as_ground b.old) (told_pair result) self.new (B.Blocks.as_ground b.new) }
+    pub(crate) fn nth<B: Blocks>(&self, b: &mut B, n: u32, i: u64) -> Result<(u64, u64), Reason>
+        requires { CanServe self.now (B.Blocks.as_ground b.old) }
+        ensures { Served (Op.Nth n i) self.now (B.Blocks.as_ground b.old) (told_pair result) self.now (B.Blocks.as_ground b.new) }
     {
         Err(Reason::NotBuilt)
     }

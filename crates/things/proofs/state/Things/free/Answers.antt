@@ -1,4 +1,3 @@
-use Rattle.std.proofs.Common.{arith}
 use Rattle.std.proofs.lemmas.Result.{err_from_is_err_and}
 use Rattle.things.specs.declared.Op.TheVariants.{Free}
 use Rattle.things.specs.Names.{any_here}
@@ -12,12 +11,8 @@ returns-in_err-find g c =
     let p = err_from_is_err_and c.from_residual.result c.from_residual.ensures.1 in
     rw (p.1, p.2) (unchanged (Free c.args.n) tt (free_refused c.args.n c.args.self.now _ c.in_err-find.ensures) c.requires.sound)
 
-pub clear-requires : goal.clear-requires
-clear-requires g c = record {
-  low = low any_here c.args.n c.args.self.now c.in_ok-find.ensures;
-  sound = c.requires.sound;
-  asks = omega (arith, c.requires.enough);
-}
+pub clear-requires-clause-low : goal.clear-requires-clause-low
+clear-requires-clause-low g c = low any_here c.args.n c.args.self.now c.in_ok-find.ensures
 
 pub returns : goal.returns
 returns g c = free_cleared c.args.n c.args.self.now _ _ _ _ tt c.in_ok-find.ensures c.clear.ensures

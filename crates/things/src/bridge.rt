@@ -5,6 +5,7 @@ ghost use Rattle.things.specs.Bridge.{memory_of};
 use crate::Blocks;
 use store::Store;
 
+// A Store<B> for B itself is refused, since Store is of another crate; an adapter that holds a &mut B loses what is known of it. So a type without fields stands for the two.
 pub struct Ours {}
 
 impl<B: Blocks> Store<B> for Ours {

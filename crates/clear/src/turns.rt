@@ -11,22 +11,22 @@ use tree::path::{Branch, Path};
 use tree::reads::{child_block, number_of_children};
 
 // The block of the child that is next, or none where all children have been.
-pub fn next_child<K: Kind, W: Store<M>, M>(m: &mut M, at: Branch) -> Option<u32>
+pub fn next_child<K: Kind, W: Store>(m: &mut W::Memory, at: Branch) -> Option<u32>
     requires asks { 2 ≤ (W.Store.memory m.old).left }
     requires there { Stored (W.Store.memory m.old).block at.block }
     requires few { length (K.Kind.layout.children ((W.Store.memory m.old).block at.block)) ≤ K.Kind.layout.node_cap }
     requires low { at.place < length (K.Kind.layout.children ((W.Store.memory m.old).block at.block)) → turn K.Kind.layout (W.Store.memory m.old).block at.block at.place < 1048576 }
     ensures { MatchOption result (Childless K.Kind.layout at (W.Store.memory m.old) (W.Store.memory m.new)) (λ c. NextChild K.Kind.layout at c (W.Store.memory m.old) (W.Store.memory m.new)) }
 {
-    if at.place < number_of_children::<K, W, M>(m, at.block) {
-        Some(child_block::<K, W, M>(m, at.block, at.place) as u32)
+    if at.place < number_of_children::<K, W>(m, at.block) {
+        Some(child_block::<K, W>(m, at.block, at.place) as u32)
     } else {
         None
     }
 }
 
 // A block below the path: a leaf goes back, and a node goes on the path.
-pub fn go_down<W: Store<M>, M>(m: &mut M, path: &mut Path, block: u32, height: u8)
+pub fn go_down<W: Store>(m: &mut W::Memory, path: &mut Path, block: u32, height: u8)
     requires asks { 0 < (W.Store.memory m.old).left }
     requires there { Stored (W.Store.memory m.old).block block }
     requires room { height ≤ longest }

@@ -30,8 +30,8 @@ fn put<K: Kind>(page: &mut Page<K::Node>, place: usize, risen: Risen)
 }
 
 // What came up goes into the node of a branch, for the child taken there: what stands above the node then.
-fn rise<K: Kind, W: Store<M>, M>(
-    m: &mut M,
+fn rise<K: Kind, W: Store>(
+    m: &mut W::Memory,
     branch: Branch,
     risen: Risen,
     reserve: &mut Reserve,
@@ -40,14 +40,14 @@ fn rise<K: Kind, W: Store<M>, M>(
     requires ready { Ready K.Kind.layout K.Node.Codec.valid branch (W.Store.memory m.old) reserve.old risen }
     ensures { Settled K.Kind.layout.children (entry_of K.Kind.layout) K.Kind.layout.node_cap turn_asks branch.block (placed (K.Kind.layout.children ((W.Store.memory m.old).block branch.block)) branch.place risen) (W.Store.memory m.old) reserve.old result (W.Store.memory m.new) reserve.new }
 {
-    let mut page = load_page::<Nodes<K>, W, M>(m, branch.block);
+    let mut page = load_page::<Nodes<K>, W>(m, branch.block);
     put::<K>(&mut page, branch.place as usize, risen);
-    settle::<Nodes<K>, W, M>(m, branch.block, page, reserve)
+    settle::<Nodes<K>, W>(m, branch.block, page, reserve)
 }
 
 // Up all nodes of a path, from the lowest to the root.
-pub fn climb<K: Kind, W: Store<M>, M>(
-    m: &mut M,
+pub fn climb<K: Kind, W: Store>(
+    m: &mut W::Memory,
     mut path: Path,
     risen: Risen,
     reserve: &mut Reserve,
@@ -60,7 +60,7 @@ pub fn climb<K: Kind, W: Store<M>, M>(
 {
     let mut top = risen;
     while let Some(branch) = path.pop() {
-        top = rise::<K, W, M>(m, branch, top, reserve);
+        top = rise::<K, W>(m, branch, top, reserve);
     }
     top
 }

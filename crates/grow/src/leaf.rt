@@ -17,8 +17,8 @@ use tree::pages::load_page;
 use tree::risen::Risen;
 
 // To the place `at` in the leaf at block b: what stands above it then.
-pub fn insert_leaf<K: Kind, W: Store<M>, M>(
-    m: &mut M,
+pub fn insert_leaf<K: Kind, W: Store>(
+    m: &mut W::Memory,
     b: u32,
     at: usize,
     x: K::Item,
@@ -33,7 +33,7 @@ pub fn insert_leaf<K: Kind, W: Store<M>, M>(
     requires beside { uses reserve.old b ≡ 0 }
     ensures { Settled K.Kind.layout.items (entry_of_leaf K.Kind.layout) K.Kind.layout.leaf_cap turn_asks b (insert (K.Kind.layout.items ((W.Store.memory m.old).block b)) at x) (W.Store.memory m.old) reserve.old result (W.Store.memory m.new) reserve.new }
 {
-    let mut page = load_page::<Leaves<K>, W, M>(m, b);
+    let mut page = load_page::<Leaves<K>, W>(m, b);
     page.insert(at, x);
-    settle::<Leaves<K>, W, M>(m, b, page, reserve)
+    settle::<Leaves<K>, W>(m, b, page, reserve)
 }

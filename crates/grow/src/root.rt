@@ -18,8 +18,8 @@ use tree::risen::Risen;
 use tree::top::Tree;
 
 // A node above two others, in a block of the reserve.
-fn node_above<K: Kind, W: Store<M>, M>(
-    m: &mut M,
+fn node_above<K: Kind, W: Store>(
+    m: &mut W::Memory,
     one: Child,
     other: Child,
     reserve: &mut Reserve,
@@ -35,13 +35,13 @@ fn node_above<K: Kind, W: Store<M>, M>(
     page.push(one);
     page.push(other);
     let block = reserve.take().into_block();
-    store_page::<Nodes<K>, W, M>(m, block, &page);
+    store_page::<Nodes<K>, W>(m, block, &page);
     block
 }
 
 // What came up is the tree, or stands under a new root.
-pub fn new_root<K: Kind, W: Store<M>, M>(
-    m: &mut M,
+pub fn new_root<K: Kind, W: Store>(
+    m: &mut W::Memory,
     height: u8,
     risen: Risen,
     reserve: &mut Reserve,
@@ -59,7 +59,7 @@ pub fn new_root<K: Kind, W: Store<M>, M>(
             height,
         },
         Some(other) => Tree {
-            root: node_above::<K, W, M>(m, risen.first, other, reserve),
+            root: node_above::<K, W>(m, risen.first, other, reserve),
             height: height + 1,
         },
     }

@@ -21,8 +21,8 @@ struct Upper<L: Level> {
 }
 
 // Half of the page stays and goes to block b, and the rest to a block of the reserve.
-fn split<L: Level, W: Store<M>, M>(
-    m: &mut M,
+fn split<L: Level, W: Store>(
+    m: &mut W::Memory,
     b: u32,
     page: &mut Page<L::Entry>,
     reserve: &mut Reserve,
@@ -39,14 +39,14 @@ fn split<L: Level, W: Store<M>, M>(
 {
     let upper = page.split_off(page.len() / 2);
     let block = reserve.take().into_block();
-    store_page::<L, W, M>(m, b, page);
-    store_page::<L, W, M>(m, block, &upper);
+    store_page::<L, W>(m, b, page);
+    store_page::<L, W>(m, block, &upper);
     Upper { block, page: upper }
 }
 
 // What stands above the page then.
-pub fn settle<L: Level, W: Store<M>, M>(
-    m: &mut M,
+pub fn settle<L: Level, W: Store>(
+    m: &mut W::Memory,
     b: u32,
     mut page: Page<L::Entry>,
     reserve: &mut Reserve,
@@ -62,13 +62,13 @@ pub fn settle<L: Level, W: Store<M>, M>(
     ensures { Settled L.Level.read L.Level.entry L.Level.most settle_asks b page (W.Store.memory m.old) reserve.old result (W.Store.memory m.new) reserve.new }
 {
     if page.len() <= L::most() {
-        store_page::<L, W, M>(m, b, &page);
+        store_page::<L, W>(m, b, &page);
         return Risen {
             first: L::entry(b as u64, &page),
             second: None,
         };
     }
-    let upper = split::<L, W, M>(m, b, &mut page, reserve);
+    let upper = split::<L, W>(m, b, &mut page, reserve);
     Risen {
         first: L::entry(b as u64, &page),
         second: Some(L::entry(upper.block as u64, &upper.page)),

@@ -24,7 +24,7 @@ fn takes(count: u64, rest: u64, target: Target) -> bool
 
 // The child of the node at block b that an item or a gap is under: counts are read until it is found.
 #[tactic(auto, using(crate::proofs::Counted::counts_next, crate::proofs::Readings::asked_next, page::proofs::Counts::counts_none))]
-pub fn choose_child<K: Kind, W: Store<M>, M>(m: &mut M, b: u32, at: u64, target: Target) -> Step
+pub fn choose_child<K: Kind, W: Store>(m: &mut W::Memory, b: u32, at: u64, target: Target) -> Step
     requires asks { page_asks ≤ (W.Store.memory m.old).left }
     requires there { Stored (W.Store.memory m.old).block b }
     requires few { length (K.Kind.layout.children ((W.Store.memory m.old).block b)) ≤ K.Kind.layout.node_cap }
@@ -33,12 +33,12 @@ pub fn choose_child<K: Kind, W: Store<M>, M>(m: &mut M, b: u32, at: u64, target:
     ensures chosen { Chosen (K.Kind.layout.children ((W.Store.memory m.old).block b)) at target result }
     ensures same { Reading page_asks (W.Store.memory m.old) (W.Store.memory m.new) }
 {
-    let entries = number_of_children::<K, W, M>(m, b);
+    let entries = number_of_children::<K, W>(m, b);
     let mut rest = at;
     for child in 0..entries {
-        let count = child_count::<K, W, M>(m, b, child);
+        let count = child_count::<K, W>(m, b, child);
         if takes(count, rest, target) {
-            let block = child_block::<K, W, M>(m, b, child);
+            let block = child_block::<K, W>(m, b, child);
             return Step {
                 child,
                 block,

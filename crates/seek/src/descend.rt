@@ -23,7 +23,7 @@ fn run_on(run: u32, n: usize, most: usize) -> u32
 }
 
 // To the item at `at`, or to the gap where an item comes that is to have `at` items before it.
-pub fn descend<K: Kind, W: Store<M>, M>(m: &mut M, t: Tree, at: u64, target: Target) -> Reached
+pub fn descend<K: Kind, W: Store>(m: &mut W::Memory, t: Tree, at: u64, target: Target) -> Reached
     requires lies { Lies K.Kind.layout (W.Store.memory m.old) t }
     requires tall { 0 < t.height }
     requires there { at < length (holds K.Kind.layout (W.Store.memory m.old).block t) + more target }
@@ -35,7 +35,7 @@ pub fn descend<K: Kind, W: Store<M>, M>(m: &mut M, t: Tree, at: u64, target: Tar
     let mut rest = at;
     let mut full = 0;
     for _ in 1..t.height {
-        let step = choose_child::<K, W, M>(m, b, rest, target);
+        let step = choose_child::<K, W>(m, b, rest, target);
         path.push(Branch {
             block: b,
             place: step.child,
@@ -44,7 +44,7 @@ pub fn descend<K: Kind, W: Store<M>, M>(m: &mut M, t: Tree, at: u64, target: Tar
         b = step.block as u32;
         rest = step.rest;
     }
-    let items = number_of_entries::<W, M>(m, b);
+    let items = number_of_entries::<W>(m, b);
     Reached {
         path,
         leaf: b,

@@ -20,7 +20,7 @@ impl Fresh {
     }
 
     // None: the memory refused.
-    pub fn obtain<W: Store<M>, M>(m: &mut M) -> Option<Fresh>
+    pub fn obtain<W: Store>(m: &mut W::Memory) -> Option<Fresh>
         requires asks { 0 < (W.Store.memory m.old).left }
         requires room { (W.Store.memory m.old).many < (W.Store.memory m.old).top }
         ensures { MatchOption result (W.Store.memory m.new ≡ refused (W.Store.memory m.old)) (λ f. Obtained (W.Store.memory m.old) f.number (W.Store.memory m.new)) }
@@ -29,7 +29,7 @@ impl Fresh {
         Some(Fresh::new(number))
     }
 
-    pub fn give_back<W: Store<M>, M>(self, m: &mut M)
+    pub fn give_back<W: Store>(self, m: &mut W::Memory)
         requires asks { 0 < (W.Store.memory m.old).left }
         requires held { 0 < (W.Store.memory m.old).many }
         requires there { Stored (W.Store.memory m.old).block self.number }

@@ -12,7 +12,7 @@ use crate::reserve::Reserve;
 pub struct NoRoom;
 
 // n blocks, or none: then all is as it was.
-pub fn reserve<W: Store<M>, M>(m: &mut M, n: usize) -> Result<Reserve, NoRoom>
+pub fn reserve<W: Store>(m: &mut W::Memory, n: usize) -> Result<Reserve, NoRoom>
     requires few { n ≤ capacity }
     requires asks { 2 * n ≤ (W.Store.memory m.old).left }
     requires room { (W.Store.memory m.old).many + n ≤ (W.Store.memory m.old).top }
@@ -20,8 +20,8 @@ pub fn reserve<W: Store<M>, M>(m: &mut M, n: usize) -> Result<Reserve, NoRoom>
 {
     let mut got = Reserve::new();
     for _ in 0..n {
-        let Some(f) = Fresh::obtain::<W, M>(m) else {
-            give_all::<W, M>(got, m);
+        let Some(f) = Fresh::obtain::<W>(m) else {
+            give_all::<W>(got, m);
             return Err(NoRoom);
         };
         got.push(f);
@@ -30,13 +30,13 @@ pub fn reserve<W: Store<M>, M>(m: &mut M, n: usize) -> Result<Reserve, NoRoom>
 }
 
 // Every block of the reserve goes back to the memory.
-pub fn give_all<W: Store<M>, M>(mut rest: Reserve, m: &mut M)
+pub fn give_all<W: Store>(mut rest: Reserve, m: &mut W::Memory)
     requires asks { length rest ≤ (W.Store.memory m.old).left }
     requires held { length rest ≤ (W.Store.memory m.old).many }
     requires there { Stocked (uses rest) (W.Store.memory m.old).block }
     ensures { GivenAll (W.Store.memory m.old) rest (W.Store.memory m.new) }
 {
     while let Some(f) = rest.pop() {
-        f.give_back::<W, M>(m);
+        f.give_back::<W>(m);
     }
 }

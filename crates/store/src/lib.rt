@@ -9,30 +9,32 @@ pub mod gather;
 pub mod reserve;
 pub mod words;
 
-// Memory of blocks of 64 words, held in a value of type M. Each call is one asking.
-// Not methods of M: an impl for all M of another crate's trait is refused, and what is known of M
-// is lost in a struct that holds a `&mut M`.
-pub trait Store<M> {
-    ghost memory: { M → Memory };
+// Memory of blocks of 64 words, held in a value of another type. Each call is one asking.
+// Not methods of that type: an impl for all types with a trait of another crate is refused, and what is known of
+// a value is lost in a struct that holds a `&mut` to it.
+pub trait Store {
+    type Memory;
 
-    fn obtain(m: &mut M) -> Option<u32>
+    ghost memory: { Self.Memory → Memory };
+
+    fn obtain(m: &mut Self::Memory) -> Option<u32>
         requires asks { 0 < (memory m.old).left }
         requires room { (memory m.old).many < (memory m.old).top }
         ensures { MatchOption result (memory m.new ≡ refused (memory m.old)) (λ b. Got (memory m.old) b (memory m.new)) };
 
-    fn release(m: &mut M, b: u32)
+    fn release(m: &mut Self::Memory, b: u32)
         requires asks { 0 < (memory m.old).left }
         requires there { Stored (memory m.old).block b }
         ensures { memory m.new ≡ released b (memory m.old) };
 
-    fn get(m: &mut M, b: u32, i: u32) -> u64
+    fn get(m: &mut Self::Memory, b: u32, i: u32) -> u64
         requires asks { 0 < (memory m.old).left }
         requires there { Stored (memory m.old).block b }
         requires inside { i < 64 }
         ensures word { result ≡ slice_index ((memory m.old).block b) i }
         ensures same { memory m.new ≡ asked 1 (memory m.old) };
 
-    fn put(m: &mut M, b: u32, i: u32, x: u64)
+    fn put(m: &mut Self::Memory, b: u32, i: u32, x: u64)
         requires asks { 0 < (memory m.old).left }
         requires there { Stored (memory m.old).block b }
         requires inside { i < 64 }

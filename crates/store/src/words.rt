@@ -6,7 +6,7 @@ ghost use Rattle.store.specs.Memory.{Stored, asked, wrote};
 use crate::Store;
 
 // The n words of block b from word `first` on, and 0 behind them.
-pub fn load<W: Store<M>, M, const N: usize>(m: &mut M, b: u32, first: u32, n: u32) -> [u64; N]
+pub fn load<W: Store, const N: usize>(m: &mut W::Memory, b: u32, first: u32, n: u32) -> [u64; N]
     requires inside { first + n ≤ 64 }
     requires fits { n ≤ N }
     requires asks { n ≤ (W.Store.memory m.old).left }
@@ -23,8 +23,8 @@ pub fn load<W: Store<M>, M, const N: usize>(m: &mut M, b: u32, first: u32, n: u3
 }
 
 // The first n of the words go into block b, from word `first` on.
-pub fn store<W: Store<M>, M, const N: usize>(
-    m: &mut M,
+pub fn store<W: Store, const N: usize>(
+    m: &mut W::Memory,
     b: u32,
     first: u32,
     n: u32,

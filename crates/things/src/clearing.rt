@@ -17,8 +17,8 @@ fn give_kept<B: Blocks>(b: &mut B, x: Kept)
     ensures { SlotGiven (Some x) (memory_of (B.Blocks.as_ground b.old)) (memory_of (B.Blocks.as_ground b.new)) }
 {
     match x {
-        Kept::Row(t) => give_back::<Rows, Ours, B>(b, t),
-        Kept::Table(t) => give_back::<Tables, Ours, B>(b, t),
+        Kept::Row(t) => give_back::<Rows, Ours<B>>(b, t),
+        Kept::Table(t) => give_back::<Tables, Ours<B>>(b, t),
     }
 }
 

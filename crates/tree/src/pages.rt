@@ -11,7 +11,7 @@ use store::Store;
 use store::words::{load, store};
 
 // The page at block b: only the words that it uses are read.
-pub fn load_page<L: Level, W: Store<M>, M>(m: &mut M, b: u32) -> Page<L::Entry>
+pub fn load_page<L: Level, W: Store>(m: &mut W::Memory, b: u32) -> Page<L::Entry>
     requires asks { page_asks ≤ (W.Store.memory m.old).left }
     requires there { Stored (W.Store.memory m.old).block b }
     requires few { length (L.Level.read ((W.Store.memory m.old).block b)) ≤ L.Level.most }
@@ -19,12 +19,12 @@ pub fn load_page<L: Level, W: Store<M>, M>(m: &mut M, b: u32) -> Page<L::Entry>
     ensures same { Reading page_asks (W.Store.memory m.old) (W.Store.memory m.new) }
 {
     let n = W::get(m, b, 0) as u32;
-    let image = load::<W, M, BLOCK>(m, b, 0, HEAD as u32 + n * L::Entry::width() as u32);
+    let image = load::<W, BLOCK>(m, b, 0, HEAD as u32 + n * L::Entry::width() as u32);
     Page::unpack(&image)
 }
 
 // The page goes to block b: only the words that it uses are written.
-pub fn store_page<L: Level, W: Store<M>, M>(m: &mut M, b: u32, page: &Page<L::Entry>)
+pub fn store_page<L: Level, W: Store>(m: &mut W::Memory, b: u32, page: &Page<L::Entry>)
     requires asks { page_asks ≤ (W.Store.memory m.old).left }
     requires there { Stored (W.Store.memory m.old).block b }
     requires few { length page.now ≤ L.Level.most }
@@ -33,5 +33,5 @@ pub fn store_page<L: Level, W: Store<M>, M>(m: &mut M, b: u32, page: &Page<L::En
     let mut image = [0; BLOCK];
     page.pack(&mut image);
     let words = HEAD as u32 + page.len() as u32 * L::Entry::width() as u32;
-    store::<W, M, BLOCK>(m, b, 0, words, &image);
+    store::<W, BLOCK>(m, b, 0, words, &image);
 }

@@ -13,7 +13,7 @@ use store::Store;
 const ENTRIES: u32 = 0;
 
 // How many entries the page at block b has.
-pub fn number_of_entries<W: Store<M>, M>(m: &mut M, b: u32) -> u64
+pub fn number_of_entries<W: Store>(m: &mut W::Memory, b: u32) -> u64
     requires asks { 0 < (W.Store.memory m.old).left }
     requires there { Stored (W.Store.memory m.old).block b }
     ensures value { result ≡ slice_index ((W.Store.memory m.old).block b) 0 }
@@ -31,7 +31,7 @@ pub fn entry_word<C: Codec>(i: u32) -> u32
 }
 
 // How many children the node at block b has.
-pub fn number_of_children<K: Kind, W: Store<M>, M>(m: &mut M, b: u32) -> u32
+pub fn number_of_children<K: Kind, W: Store>(m: &mut W::Memory, b: u32) -> u32
     requires asks { 0 < (W.Store.memory m.old).left }
     requires there { Stored (W.Store.memory m.old).block b }
     requires few { length (K.Kind.layout.children ((W.Store.memory m.old).block b)) ≤ K.Kind.layout.node_cap }
@@ -39,11 +39,11 @@ pub fn number_of_children<K: Kind, W: Store<M>, M>(m: &mut M, b: u32) -> u32
     ensures small { result ≤ 62 }
     ensures same { W.Store.memory m.new ≡ asked 1 (W.Store.memory m.old) }
 {
-    number_of_entries::<W, M>(m, b) as u32
+    number_of_entries::<W>(m, b) as u32
 }
 
 // How many items are under child i of the node at block b.
-pub fn child_count<K: Kind, W: Store<M>, M>(m: &mut M, b: u32, i: u32) -> u64
+pub fn child_count<K: Kind, W: Store>(m: &mut W::Memory, b: u32, i: u32) -> u64
     requires asks { 0 < (W.Store.memory m.old).left }
     requires there { Stored (W.Store.memory m.old).block b }
     requires few { length (K.Kind.layout.children ((W.Store.memory m.old).block b)) ≤ K.Kind.layout.node_cap }
@@ -56,7 +56,7 @@ pub fn child_count<K: Kind, W: Store<M>, M>(m: &mut M, b: u32, i: u32) -> u64
 }
 
 // The block of child i of the node at block b.
-pub fn child_block<K: Kind, W: Store<M>, M>(m: &mut M, b: u32, i: u32) -> u64
+pub fn child_block<K: Kind, W: Store>(m: &mut W::Memory, b: u32, i: u32) -> u64
     requires asks { 0 < (W.Store.memory m.old).left }
     requires there { Stored (W.Store.memory m.old).block b }
     requires few { length (K.Kind.layout.children ((W.Store.memory m.old).block b)) ≤ K.Kind.layout.node_cap }

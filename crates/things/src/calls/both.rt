@@ -26,8 +26,8 @@ impl Things {
         ensures { Served (Op.Length n) self.now (B.Blocks.as_ground b.old) (told_word result) self.now (B.Blocks.as_ground b.new) }
     {
         match self.find(n)? {
-            Kept::Row(t) => Ok(size::length::<Rows, Ours, B>(b, t)),
-            Kept::Table(t) => Ok(size::length::<Tables, Ours, B>(b, t)),
+            Kept::Row(t) => Ok(size::length::<Rows, Ours<B>>(b, t)),
+            Kept::Table(t) => Ok(size::length::<Tables, Ours<B>>(b, t)),
         }
     }
 }

@@ -22,7 +22,7 @@ impl Things {
         ensures same { Reading length_asks (memory_of (B.Blocks.as_ground b.old)) (memory_of (B.Blocks.as_ground b.new)) }
     {
         let t = self.find_row(n)?;
-        if i < size::length::<Rows, Ours, B>(b, t) {
+        if i < size::length::<Rows, Ours<B>>(b, t) {
             Ok(t)
         } else {
             Err(Reason::NoPlace)

@@ -26,7 +26,7 @@ impl Things {
         ensures { Served (Op.At n i) self.now (B.Blocks.as_ground b.old) (told_word result) self.now (B.Blocks.as_ground b.new) }
     {
         let t = self.find_place(b, n, i)?;
-        Ok(items::at::<Rows, Ours, B>(b, t, i))
+        Ok(items::at::<Rows, Ours<B>>(b, t, i))
     }
 
     // The word at i is x.
@@ -35,7 +35,7 @@ impl Things {
         ensures { Served (Op.Set n i x) self.old (B.Blocks.as_ground b.old) (told_done result) self.new (B.Blocks.as_ground b.new) }
     {
         let t = self.find_place(b, n, i)?;
-        items::set::<Rows, Ours, B>(b, t, i, x);
+        items::set::<Rows, Ours<B>>(b, t, i, x);
         Ok(())
     }
 
@@ -51,10 +51,10 @@ impl Things {
         ensures { Served (Op.Insert n i x) self.old (B.Blocks.as_ground b.old) (told_done result) self.new (B.Blocks.as_ground b.new) }
     {
         let t = self.find_row(n)?;
-        if i > size::length::<Rows, Ours, B>(b, t) {
+        if i > size::length::<Rows, Ours<B>>(b, t) {
             return Err(Reason::NoPlace);
         }
-        let u = grow::insert::insert::<Rows, Ours, B>(b, t, i, x)?;
+        let u = grow::insert::insert::<Rows, Ours<B>>(b, t, i, x)?;
         self.lay(n, Kept::Row(u));
         Ok(())
     }
@@ -65,7 +65,7 @@ impl Things {
         ensures { Served (Op.Delete n i) self.old (B.Blocks.as_ground b.old) (told_word result) self.new (B.Blocks.as_ground b.new) }
     {
         let t = self.find_place(b, n, i)?;
-        let (u, x) = shrink::delete::delete::<Rows, Ours, B>(b, t, i);
+        let (u, x) = shrink::delete::delete::<Rows, Ours<B>>(b, t, i);
         self.lay(n, Kept::Row(u));
         Ok(x)
     }

@@ -40,12 +40,7 @@ impl Things {
     }
 
     // The first pair with a key of k or more.
-    pub(crate) fn least<B: Blocks>(
-        &self,
-        b: &mut B,
-        n: u32,
-        k: u64,
-    ) -> Result<(u64, u64), Reason>
+    pub(crate) fn least<B: Blocks>(&self, b: &mut B, n: u32, k: u64) -> Result<(u64, u64), Reason>
         requires { CanServe self.now (B.Blocks.as_ground b.old) }
         ensures { Served (Op.Least n k) self.now (B.Blocks.as_ground b.old) (told_pair result) self.now (B.Blocks.as_ground b.new) }
     {

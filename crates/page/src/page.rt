@@ -13,6 +13,7 @@ mod images;
 mod moves;
 mod splices;
 
+// Words and how many entries they hold: an array of C's items can't be a field here, as the size of a generic struct would be owed by every call.
 #[derive(Drop)]
 pub struct Page<C: Codec> {
     words: [u64; WORDS],

@@ -35,11 +35,9 @@ pub fn length<K: Kind, W: Store>(m: &mut W::Memory, t: Tree) -> u64
     ensures value { result ≡ length (holds K.Kind.layout (W.Store.memory m.old).block t) }
     ensures same { Reading length_asks (W.Store.memory m.old) (W.Store.memory m.new) }
 {
-    if t.height == 0 {
-        return 0;
+    match t.height {
+        0 => 0,
+        1 => number_of_entries::<W>(m, t.root),
+        _ => total::<K, W>(m, t.root),
     }
-    if t.height == 1 {
-        return number_of_entries::<W>(m, t.root);
-    }
-    total::<K, W>(m, t.root)
 }

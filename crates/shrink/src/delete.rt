@@ -27,16 +27,16 @@ fn take_out<K: Kind>(page: &mut Page<K::Leaf>, at: u64) -> K::Item
 }
 
 // The tree without the item at `at`, and that item.
-pub fn delete<K: Kind, W: Store<M>, M>(m: &mut M, t: Tree, at: u64) -> (Tree, K::Item)
+pub fn delete<K: Kind, W: Store>(m: &mut W::Memory, t: Tree, at: u64) -> (Tree, K::Item)
     requires lies { Lies K.Kind.layout (W.Store.memory m.old) t }
     requires place { at < length (holds K.Kind.layout (W.Store.memory m.old).block t) }
     requires asks { delete_asks ≤ (W.Store.memory m.old).left }
     ensures { Deleted K.Kind.layout at t (W.Store.memory m.old) result.0 result.1 (W.Store.memory m.new) }
 {
-    let reached = descend::<K, W, M>(m, t, at, false);
-    let mut page = load_leaf::<K, W, M>(m, reached.leaf);
+    let reached = descend::<K, W>(m, t, at, false);
+    let mut page = load_leaf::<K, W>(m, reached.leaf);
     let item = take_out::<K>(&mut page, reached.at);
-    let risen = put_leaf::<K, W, M>(m, reached.leaf, &page);
-    let top = climb::<K, W, M>(m, &reached.path, risen);
-    (trim::<K, W, M>(m, t, top), item)
+    let risen = put_leaf::<K, W>(m, reached.leaf, &page);
+    let top = climb::<K, W>(m, &reached.path, risen);
+    (trim::<K, W>(m, t, top), item)
 }

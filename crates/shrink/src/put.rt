@@ -24,13 +24,13 @@ fn is_low(len: usize, most: usize) -> bool
 }
 
 // A leaf: nothing stands above one that is too empty.
-pub fn put_leaf<K: Kind, W: Store<M>, M>(m: &mut M, b: u32, page: &Page<K::Leaf>) -> Option<Child>
+pub fn put_leaf<K: Kind, W: Store>(m: &mut W::Memory, b: u32, page: &Page<K::Leaf>) -> Option<Child>
     requires asks { page_asks ≤ (W.Store.memory m.old).left }
     requires there { Stored (W.Store.memory m.old).block b }
     requires few { page.now.len ≤ K.Kind.layout.leaf_cap }
     ensures { Put K.Kind.layout.items (entry_of_leaf K.Kind.layout) K.Kind.layout.leaf_cap b (entries K.Leaf.Codec.width K.Leaf.Codec.decode page.now) (W.Store.memory m.old) result (W.Store.memory m.new) }
 {
-    store_page::<K::Leaf, W, M>(m, b, page);
+    store_page::<K::Leaf, W>(m, b, page);
     if is_low(page.len(), K::leaf_cap()) {
         return None;
     }
@@ -38,14 +38,14 @@ pub fn put_leaf<K: Kind, W: Store<M>, M>(m: &mut M, b: u32, page: &Page<K::Leaf>
 }
 
 // A node.
-pub fn put_node<K: Kind, W: Store<M>, M>(m: &mut M, b: u32, page: &Page<K::Node>) -> Option<Child>
+pub fn put_node<K: Kind, W: Store>(m: &mut W::Memory, b: u32, page: &Page<K::Node>) -> Option<Child>
     requires asks { page_asks ≤ (W.Store.memory m.old).left }
     requires there { Stored (W.Store.memory m.old).block b }
     requires few { page.now.len ≤ K.Kind.layout.node_cap }
     requires counts { counts (entries K.Node.Codec.width K.Node.Codec.decode page.now) < 2 ^ 64 }
     ensures { Put K.Kind.layout.children (entry_of K.Kind.layout) K.Kind.layout.node_cap b (entries K.Node.Codec.width K.Node.Codec.decode page.now) (W.Store.memory m.old) result (W.Store.memory m.new) }
 {
-    store_page::<K::Node, W, M>(m, b, page);
+    store_page::<K::Node, W>(m, b, page);
     if is_low(page.len(), K::node_cap()) {
         return None;
     }

@@ -18,8 +18,8 @@ use store::Store;
 use tree::pages::{load_page, store_page};
 
 // The page goes to block b; but where it was merged into another, the block is given back.
-fn keep_or_release<C: Codec, W: Store<M>, M>(
-    m: &mut M,
+fn keep_or_release<C: Codec, W: Store>(
+    m: &mut W::Memory,
     b: u32,
     page: Page<C>,
     merged: bool,
@@ -34,13 +34,13 @@ fn keep_or_release<C: Codec, W: Store<M>, M>(
         W::release(m, b);
         return None;
     }
-    store_page::<C, W, M>(m, b, &page);
+    store_page::<C, W>(m, b, &page);
     Some(page)
 }
 
 // The pages at blocks a and b, neighbours, become one at a, and b is given back; or two that are half full.
-fn even<C: Codec, W: Store<M>, M>(
-    m: &mut M,
+fn even<C: Codec, W: Store>(
+    m: &mut W::Memory,
     a: u32,
     b: u32,
     most: usize,
@@ -55,21 +55,21 @@ fn even<C: Codec, W: Store<M>, M>(
     requires held { 0 < (W.Store.memory m.old).many }
     ensures { MatchOption result.1 (InOne (imaged C.Codec.width C.Codec.decode) share_asks most a b (W.Store.memory m.old) (entries C.Codec.width C.Codec.decode result.0) (W.Store.memory m.new)) (λ right. InTwo (imaged C.Codec.width C.Codec.decode) share_asks most a b (W.Store.memory m.old) (entries C.Codec.width C.Codec.decode result.0) (entries C.Codec.width C.Codec.decode right) (W.Store.memory m.new)) }
 {
-    let mut left = load_page::<C, W, M>(m, a);
-    let mut right = load_page::<C, W, M>(m, b);
+    let mut left = load_page::<C, W>(m, a);
+    let mut right = load_page::<C, W>(m, b);
     let merged = left.even_out(&mut right, most);
-    store_page::<C, W, M>(m, a, &left);
-    let right = keep_or_release::<C, W, M>(m, b, right, merged);
+    store_page::<C, W>(m, a, &left);
+    let right = keep_or_release::<C, W>(m, b, right, merged);
     (left, right)
 }
 
 // Of leaves: what stands above them then.
-fn share_leaves<K: Kind, W: Store<M>, M>(m: &mut M, a: u32, b: u32) -> (Child, Option<Child>)
+fn share_leaves<K: Kind, W: Store>(m: &mut W::Memory, a: u32, b: u32) -> (Child, Option<Child>)
     requires asks { share_asks ≤ (W.Store.memory m.old).left }
     requires neighbours { Neighbours K.Kind.layout 0 a b (W.Store.memory m.old) }
     ensures { Shared K.Kind.layout share_asks 0 a b (W.Store.memory m.old) (one_or_two result.0 result.1) (W.Store.memory m.new) }
 {
-    let (left, right) = even::<K::Leaf, W, M>(m, a, b, K::leaf_cap());
+    let (left, right) = even::<K::Leaf, W>(m, a, b, K::leaf_cap());
     let one = leaf_entry::<K>(a as u64, &left);
     match right {
         Some(right) => (one, Some(leaf_entry::<K>(b as u64, &right))),
@@ -78,12 +78,12 @@ fn share_leaves<K: Kind, W: Store<M>, M>(m: &mut M, a: u32, b: u32) -> (Child, O
 }
 
 // Of nodes.
-fn share_nodes<K: Kind, W: Store<M>, M>(m: &mut M, a: u32, b: u32) -> (Child, Option<Child>)
+fn share_nodes<K: Kind, W: Store>(m: &mut W::Memory, a: u32, b: u32) -> (Child, Option<Child>)
     requires asks { share_asks ≤ (W.Store.memory m.old).left }
     requires neighbours { (h : ℕ) × Neighbours K.Kind.layout (suc h) a b (W.Store.memory m.old) }
     ensures { (h : ℕ) → Neighbours K.Kind.layout (suc h) a b (W.Store.memory m.old) → Shared K.Kind.layout share_asks (suc h) a b (W.Store.memory m.old) (one_or_two result.0 result.1) (W.Store.memory m.new) }
 {
-    let (left, right) = even::<K::Node, W, M>(m, a, b, K::node_cap());
+    let (left, right) = even::<K::Node, W>(m, a, b, K::node_cap());
     let one = node_entry::<K>(a as u64, &left);
     match right {
         Some(right) => (one, Some(node_entry::<K>(b as u64, &right))),
@@ -92,8 +92,8 @@ fn share_nodes<K: Kind, W: Store<M>, M>(m: &mut M, a: u32, b: u32) -> (Child, Op
 }
 
 // Of leaves or of nodes.
-pub fn share<K: Kind, W: Store<M>, M>(
-    m: &mut M,
+pub fn share<K: Kind, W: Store>(
+    m: &mut W::Memory,
     leaves: bool,
     a: u32,
     b: u32,
@@ -103,7 +103,7 @@ pub fn share<K: Kind, W: Store<M>, M>(
     ensures { (h : ℕ) → Next K.Kind.layout leaves h a b (W.Store.memory m.old) → Shared K.Kind.layout share_asks h a b (W.Store.memory m.old) (one_or_two result.0 result.1) (W.Store.memory m.new) }
 {
     if leaves {
-        return share_leaves::<K, W, M>(m, a, b);
+        return share_leaves::<K, W>(m, a, b);
     }
-    share_nodes::<K, W, M>(m, a, b)
+    share_nodes::<K, W>(m, a, b)
 }

@@ -13,7 +13,7 @@ use store::Store;
 use tree::top::Tree;
 
 // A leaf alone.
-fn trim_leaf<K: Kind, W: Store<M>, M>(m: &mut M, t: Tree) -> Tree
+fn trim_leaf<K: Kind, W: Store>(m: &mut W::Memory, t: Tree) -> Tree
     requires height { t.height ≡ 1 }
     requires top { (z : Start K.Item) × Topmost K.Kind.layout z t (W.Store.memory m.old) None }
     ensures { (z : Start K.Item) → Topmost K.Kind.layout z t (W.Store.memory m.old) None → Trimmed K.Kind.layout z result.height result.root (W.Store.memory m.new) }
@@ -40,12 +40,12 @@ fn only_child<K: Kind>(t: Tree, page: &Page<K::Node>) -> Tree
 }
 
 // A node.
-fn trim_node<K: Kind, W: Store<M>, M>(m: &mut M, t: Tree) -> Tree
+fn trim_node<K: Kind, W: Store>(m: &mut W::Memory, t: Tree) -> Tree
     requires height { 2 ≤ t.height }
     requires top { (z : Start K.Item) × Topmost K.Kind.layout z t (W.Store.memory m.old) None }
     ensures { (z : Start K.Item) → Topmost K.Kind.layout z t (W.Store.memory m.old) None → Trimmed K.Kind.layout z result.height result.root (W.Store.memory m.new) }
 {
-    let page = load_node::<K, W, M>(m, t.root);
+    let page = load_node::<K, W>(m, t.root);
     if page.len() > 1 {
         return t;
     }
@@ -54,7 +54,7 @@ fn trim_node<K: Kind, W: Store<M>, M>(m: &mut M, t: Tree) -> Tree
 }
 
 // A root that is full enough for a page below others stays.
-pub fn trim<K: Kind, W: Store<M>, M>(m: &mut M, t: Tree, risen: Option<Child>) -> Tree
+pub fn trim<K: Kind, W: Store>(m: &mut W::Memory, t: Tree, risen: Option<Child>) -> Tree
     requires { (z : Start K.Item) × Topmost K.Kind.layout z t (W.Store.memory m.old) risen }
     ensures { (z : Start K.Item) → Topmost K.Kind.layout z t (W.Store.memory m.old) risen → Trimmed K.Kind.layout z result.height result.root (W.Store.memory m.new) }
 {
@@ -62,9 +62,9 @@ pub fn trim<K: Kind, W: Store<M>, M>(m: &mut M, t: Tree, risen: Option<Child>) -
         Some(_) => t,
         None => {
             if t.height == 1 {
-                trim_leaf::<K, W, M>(m, t)
+                trim_leaf::<K, W>(m, t)
             } else {
-                trim_node::<K, W, M>(m, t)
+                trim_node::<K, W>(m, t)
             }
         }
     }

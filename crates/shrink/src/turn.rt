@@ -30,7 +30,7 @@ fn replace_two<K: Kind>(page: &mut Page<K::Node>, at: usize, one: Child, two: Op
 }
 
 // The children at `at` and behind it share their entries, and the page has what stands above them then.
-fn mend<K: Kind, W: Store<M>, M>(m: &mut M, leaves: bool, page: &mut Page<K::Node>, at: usize)
+fn mend<K: Kind, W: Store>(m: &mut W::Memory, leaves: bool, page: &mut Page<K::Node>, at: usize)
     requires asks { share_asks ≤ (W.Store.memory m.old).left }
     requires there { at + 1 < page.old.len }
     requires next { (h : ℕ) × Next K.Kind.layout leaves h (slice_index_or (entries K.Node.Codec.width K.Node.Codec.decode page.old) at none).block (slice_index_or (entries K.Node.Codec.width K.Node.Codec.decode page.old) (suc at) none).block (W.Store.memory m.old) }
@@ -38,7 +38,7 @@ fn mend<K: Kind, W: Store<M>, M>(m: &mut M, leaves: bool, page: &mut Page<K::Nod
 {
     let a = page.get(at).block as u32;
     let b = page.get(at + 1).block as u32;
-    let (one, two) = share::<K, W, M>(m, leaves, a, b);
+    let (one, two) = share::<K, W>(m, leaves, a, b);
     replace_two::<K>(page, at, one, two);
 }
 
@@ -59,8 +59,8 @@ fn enter<K: Kind>(page: &mut Page<K::Node>, place: u32, entry: Child)
 }
 
 // The node at `block`, with what is below it put right: the child at `place` changed.
-fn put_right<K: Kind, W: Store<M>, M>(
-    m: &mut M,
+fn put_right<K: Kind, W: Store>(
+    m: &mut W::Memory,
     leaves: bool,
     block: u32,
     place: u32,
@@ -69,22 +69,22 @@ fn put_right<K: Kind, W: Store<M>, M>(
     requires { (s : Site K.Item) × Below K.Kind.layout s leaves block place (W.Store.memory m.old) risen }
     ensures { (s : Site K.Item) → Below K.Kind.layout s leaves block place (W.Store.memory m.old) risen → Ready K.Kind.layout s.start s.level block s.above (W.Store.memory m.new) (entries K.Node.Codec.width K.Node.Codec.decode result) }
 {
-    let mut page = load_node::<K, W, M>(m, block);
+    let mut page = load_node::<K, W>(m, block);
     match risen {
         Some(entry) => {
             enter::<K>(&mut page, place, entry);
             page
         }
         None => {
-            mend::<K, W, M>(m, leaves, &mut page, left_of(place));
+            mend::<K, W>(m, leaves, &mut page, left_of(place));
             page
         }
     }
 }
 
 // What stands above the node then, if it is full enough.
-pub fn turn<K: Kind, W: Store<M>, M>(
-    m: &mut M,
+pub fn turn<K: Kind, W: Store>(
+    m: &mut W::Memory,
     leaves: bool,
     block: u32,
     place: u32,
@@ -93,6 +93,6 @@ pub fn turn<K: Kind, W: Store<M>, M>(
     requires { (s : Site K.Item) × Below K.Kind.layout s leaves block place (W.Store.memory m.old) risen }
     ensures { (s : Site K.Item) → Below K.Kind.layout s leaves block place (W.Store.memory m.old) risen → Climbing K.Kind.layout s.start (suc s.level) s.above (W.Store.memory m.new) result }
 {
-    let page = put_right::<K, W, M>(m, leaves, block, place, risen);
-    put_node::<K, W, M>(m, block, &page)
+    let page = put_right::<K, W>(m, leaves, block, place, risen);
+    put_node::<K, W>(m, block, &page)
 }

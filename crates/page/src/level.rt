@@ -1,5 +1,5 @@
 // The levels of a tree: leaves, whose pages hold items, and nodes, whose pages hold children.
-ghost use Rattle.std.specs.Prelude.{◌≡◌, ℕ, ◌+◌, ◌*◌, ◌^◌, ◌<◌, ◌≤◌, T, List, length};
+ghost use Rattle.std.specs.Prelude.{◌≡◌, ℕ, ◌+◌, ◌*◌, ◌^◌, ◌<◌, ◌≤◌, T, List, ◌++◌, length};
 ghost use Rattle.page.specs.declared.child.Child.{Child};
 ghost use Rattle.page.specs.Layout.{imaged};
 ghost use Rattle.page.specs.Sizes.{block_room};
@@ -42,4 +42,6 @@ pub trait Level {
     ghost fits: { most * Self.Entry.Codec.width ≤ block_room };
 
     ghost wide: { 2 ≤ most };
+
+    ghost adds: { (xs ys : List Self.Entry.Item) → items_under (xs ++ ys) ≡ items_under xs + items_under ys };
 }

@@ -1,7 +1,7 @@
 // Leaves: their entries are items.
 ghost use Rattle.std.specs.Prelude.{length};
 ghost use Rattle.page.specs.Layout.{entry_of_leaf};
-ghost use Rattle.std.proofs.Common.{rules};
+ghost use Rattle.std.proofs.Common.{length-append};
 
 use super::Level;
 use crate::child::Child;
@@ -31,6 +31,8 @@ impl<K: Kind> Level for Leaves<K> {
     ghost fits = { K.leafFits };
 
     ghost wide = { K.lawful.leaf_room };
+
+    ghost adds = { length-append };
 
     fn most() -> usize {
         K::leaf_cap()

@@ -1,6 +1,7 @@
 // Nodes: their entries are children.
 ghost use Rattle.std.specs.Prelude.{◌≡◌, ◌+◌, ◌^◌, ◌<◌, ◌≤◌, T};
 ghost use Rattle.page.specs.Layout.{counts, entry_of};
+ghost use Rattle.page.specs.Readers.{counts_add};
 ghost use Rattle.std.proofs.Common.{rules};
 
 use super::Level;
@@ -31,6 +32,8 @@ impl<K: Kind> Level for Nodes<K> {
     ghost fits = { K.nodeFits };
 
     ghost wide = { Prim.search rules };
+
+    ghost adds = { counts_add };
 
     fn most() -> usize {
         K::node_cap()

@@ -1,4 +1,4 @@
-use Rattle.std.proofs.Common.{◌≡◌, ◌∙◌, ap, set, length, refl, mul-le-mul, arith, rules}
+use Rattle.std.proofs.Common.{◌≡◌, ◌∙◌, ap, set, length, mul-le-mul, arith, rules}
 use Rattle.page.proofs.Images.{length_rows, rows_set, entry_fits}
 use Rattle.page.proofs.Pages.{long}
 use Rattle.page.proofs.page.Page.replace.Goals as goal

@@ -1,6 +1,3 @@
 pub mod Asks
 pub mod Putting
 pub mod Sharing
-pub mod Shrinking
-pub mod Turning
-pub mod Deleting

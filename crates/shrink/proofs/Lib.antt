@@ -1,2 +1,9 @@
 pub mod Readings
 pub mod Evening
+pub mod Topping
+pub mod CodeTop
+pub mod Opening
+pub mod Turning
+pub mod Written
+pub mod Replacing
+pub mod CodeTurns

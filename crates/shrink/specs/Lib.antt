@@ -1,3 +1,7 @@
 pub mod Asks
 pub mod Putting
 pub mod Sharing
+pub mod Shrinking
+pub mod Turning
+pub mod Tiers
+pub mod Deleting

@@ -7,3 +7,4 @@ pub mod Turning
 pub mod Written
 pub mod Replacing
 pub mod CodeTurns
+pub mod CodeClimb

@@ -1,4 +1,4 @@
 pub mod Asks
 pub mod Descent
-pub mod Items
 pub mod Chosen
+pub mod Items

@@ -9,6 +9,7 @@ ghost use Rattle.seek.specs.Items.{Updated};
 
 use crate::descend::descend;
 use crate::entry::{load_entry, store_entry};
+use crate::target::Target;
 use page::codec::Codec;
 use page::kind::Kind;
 use page::sizes::WORDS;
@@ -57,7 +58,7 @@ pub fn at<K: Kind, W: Store<M>, M>(m: &mut M, t: Tree, i: u64) -> K::Item
     ensures value { (d : K.Item) → result ≡ slice_index_or (holds K.Kind.layout (W.Store.memory m.old).block t) i d }
     ensures same { Reading at_asks (W.Store.memory m.old) (W.Store.memory m.new) }
 {
-    let place = descend::<K, W, M>(m, t, i, false);
+    let place = descend::<K, W, M>(m, t, i, Target::Item);
     read_item::<K, W, M>(m, place.leaf, place.at)
 }
 
@@ -69,6 +70,6 @@ pub fn set<K: Kind, W: Store<M>, M>(m: &mut M, t: Tree, i: u64, x: K::Item)
     requires asks { set_asks ≤ (W.Store.memory m.old).left }
     ensures { Updated K.Kind.layout t i x (W.Store.memory m.old) (W.Store.memory m.new) }
 {
-    let place = descend::<K, W, M>(m, t, i, false);
+    let place = descend::<K, W, M>(m, t, i, Target::Item);
     write_item::<K, W, M>(m, place.leaf, place.at, x);
 }

@@ -6,12 +6,13 @@ ghost use Rattle.tree.specs.Pages.{page_asks, Reading};
 ghost use Rattle.tree.specs.Trees.{holds, Lies};
 ghost use Rattle.seek.specs.Asks.{length_asks};
 
-use tree::reads::{child_count, number_of_children, number_of_entries};
 use page::kind::Kind;
 use store::Store;
+use tree::reads::{child_count, number_of_children, number_of_entries};
 use tree::top::Tree;
 
 // How many items are under the children of the node at block b: the count of each is read, and nothing else.
+#[tactic(auto, using(crate::proofs::Counted::counts_next, crate::proofs::Counted::counts_within, crate::proofs::Readings::asked_next, page::proofs::Counts::counts_none))]
 fn total<K: Kind, W: Store<M>, M>(m: &mut M, b: u32) -> u64
     requires asks { page_asks ≤ (W.Store.memory m.old).left }
     requires there { Stored (W.Store.memory m.old).block b }

@@ -7,7 +7,7 @@ use Rattle.tree.specs.declared.top.Tree.{Tree}
 use Rattle.tree.specs.Pages.{page_asks, Reading}
 use Rattle.tree.specs.Tree.{Sound}
 use Rattle.tree.specs.Paths.{none}
-use Rattle.shrink.proofs.Readings.{reading_none, reading_asked}
+use Rattle.seek.proofs.Readings.{reading_none, reading_asked}
 use Rattle.shrink.specs.Asks.{top_asks}
 use Rattle.shrink.specs.Deleting.{Topmost}
 use Rattle.shrink.specs.Shrinking.{Start, Climbing, Trimmed}

@@ -9,7 +9,7 @@ use Rattle.store.proofs.Stepping.{at_other}
 use Rattle.store.proofs.Running.{ran_as, ran_then, ran_beside, ran_asked, ran_more, ran_release}
 use Rattle.tree.specs.Pages.{page_asks, Reading, Writing}
 use Rattle.tree.proofs.Writing.{stored_after, wrote_reads}
-use Rattle.shrink.proofs.Readings.{reading_then, reading_stored}
+use Rattle.seek.proofs.Readings.{reading_then, reading_stored}
 use Rattle.shrink.specs.Asks.{share_asks}
 use Rattle.shrink.specs.Sharing.{Sharable, InOne, InTwo, Above}
 

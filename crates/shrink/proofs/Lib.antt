@@ -1,4 +1,3 @@
-pub mod Readings
 pub mod Evening
 pub mod Topping
 pub mod CodeTop
@@ -8,3 +7,4 @@ pub mod Written
 pub mod Replacing
 pub mod CodeTurns
 pub mod CodeClimb
+pub mod Deletes

@@ -2,7 +2,7 @@
 -- Assumes nothing.
 use Rattle.std.specs.Prelude.{ℕ, ◌+◌, ◌*◌}
 use Rattle.tree.specs.Pages.{page_asks}
-
+use Rattle.seek.specs.Asks.{descend_asks}
 use Rattle.tree.specs.Sizes.{top_level}
 
 -- two neighbours are read, and written as one page or two
@@ -20,10 +20,6 @@ top_asks = 1 + page_asks
 -- the leaf is read and written
 abbrev pub leaf_asks : ℕ
 leaf_asks = 2 * page_asks
-
--- TEMP
-abbrev pub descend_asks : ℕ
-descend_asks = top_level * page_asks + 1
 
 abbrev pub delete_asks : ℕ
 delete_asks = descend_asks + leaf_asks + top_level * turn_asks + top_asks

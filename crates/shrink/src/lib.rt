@@ -2,6 +2,7 @@
 #![tactic(auto)]
 
 mod climb;
+pub mod delete;
 pub mod put;
 pub mod share;
 mod tier;

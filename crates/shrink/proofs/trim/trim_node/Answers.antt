@@ -1,7 +1,7 @@
 use Rattle.std.proofs.Common.{List, length, get_or, ap, ◌∙◌, arith}
 use Rattle.page.specs.declared.child.Child.{Child}
 use Rattle.tree.specs.Paths.{none}
-use Rattle.shrink.proofs.Readings.{reading_left, reading_stored}
+use Rattle.seek.proofs.Readings.{reading_left, reading_stored}
 use Rattle.shrink.proofs.CodeTop.{top_stored, top_left, node_few, node_some, code_node_stays, code_small, code_node_gone}
 use Rattle.shrink.proofs.trim.trim_node.Goals as goal
 

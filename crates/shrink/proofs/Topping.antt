@@ -14,22 +14,13 @@ use Rattle.tree.specs.Tall.{tall_contents, tall_uses, Tall}
 use Rattle.tree.proofs.Frames.{frame}
 use Rattle.tree.proofs.Roots.{child_root}
 use Rattle.shrink.specs.Asks.{top_asks}
+use Rattle.shrink.specs.Tiers.{some_held, stored_of}
 use Rattle.shrink.specs.Shrinking.{Start, Climbing, Trimmed}
-
--- a block that is held is counted
-pub some_held : (m : Memory) (b : ℕ) → Stored m.block b → m.many ≡ held_in m.block → 0 < m.many
-some_held m b s e = omega (arith, at_sum_to 1048576 b (held m.block) s.0, stored_held m.block b s)
 
 pub one_of : (xs : List Child) → length xs ≡ 1 → xs ≡ get_or xs 0 none ∷ []
 one_of [] e = absurd (omega arith)
 one_of (x ∷ []) e = refl
 one_of (x ∷ (y ∷ ys)) e = absurd (omega arith)
-
--- a page that is sound is held
-pub stored_of : {E : Type 0} (K : Layout E) (h : ℕ) (f : Mem) (b : ℕ) → Sound K h f b → Stored f b
-unfolding Sound
-stored_of K zero f b s = s.0
-stored_of K (suc h) f b s = s.0
 
 module _ {E : Type 0} (K : Layout E) (lw : Lawful K) (z : Start E) where
   least_low : (h : ℕ) → least K h ≤ low K h

@@ -44,9 +44,6 @@ pub trait Level {
     ghost wide: { 2 ≤ most };
 
     ghost adds: { (xs ys : List Self.Entry.Item) → items_under (xs ++ ys) ≡ items_under xs + items_under ys };
-<<<<<<< HEAD
 
     ghost placed: { (b : ℕ) (xs : List Self.Entry.Item) → (entry b xs).block ≡ b };
-=======
->>>>>>> fde625fd5d384e65f54318dd57aa5358822dfd9b
 }

@@ -11,16 +11,6 @@ use store::Store;
 use tree::path::Path;
 
 // The leaf at the path's end changed; what stands above the topmost page then, if it is full enough for a page below others.
-<<<<<<< HEAD
-pub fn climb<K: Kind, W: Store>(m: &mut W::Memory, path: &Path, risen: Option<Child>) -> Option<Child>
-    requires { (z : Start K.Item) × Climbing K.Kind.layout z 0 (nodes path.now) (W.Store.memory m.old) risen }
-    ensures { (z : Start K.Item) → Climbing K.Kind.layout z 0 (nodes path.now) (W.Store.memory m.old) risen → Climbing K.Kind.layout z path.now.depth [] (W.Store.memory m.new) result }
-{
-    let mut top = risen;
-    for level in 0..path.depth {
-        let d = (path.depth - level - 1) as usize;
-        top = turn::<K, W>(m, level == 0, path.blocks[d], path.places[d], top);
-=======
 pub fn climb<K: Kind, W: Store>(
     m: &mut W::Memory,
     mut path: Path,
@@ -35,7 +25,6 @@ pub fn climb<K: Kind, W: Store>(
     }
     while let Some(node) = path.pop() {
         top = turn::<Nodes<K>, W>(m, node, top);
->>>>>>> fde625fd5d384e65f54318dd57aa5358822dfd9b
     }
     top
 }

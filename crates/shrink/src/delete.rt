@@ -22,19 +22,10 @@ pub fn delete<K: Kind, W: Store>(m: &mut W::Memory, t: Tree, at: u64) -> (Tree, 
     requires asks { delete_asks ≤ (W.Store.memory m.old).left }
     ensures { Deleted K.Kind.layout at t (W.Store.memory m.old) result.0 result.1 (W.Store.memory m.new) }
 {
-<<<<<<< HEAD
-    let reached = descend::<K, W>(m, t, at, false);
-    let mut page = load_leaf::<K, W>(m, reached.leaf);
-    let item = take_out::<K>(&mut page, reached.at);
-    let risen = put_leaf::<K, W>(m, reached.leaf, &page);
-    let top = climb::<K, W>(m, &reached.path, risen);
-    (trim::<K, W>(m, t, top), item)
-=======
     let reached = descend::<K, W>(m, t, at, Target::Item);
     let mut page = load_page::<Leaves<K>, W>(m, reached.leaf);
     let item = page.remove(reached.at as usize);
     let risen = put::<Leaves<K>, W>(m, reached.leaf, &page);
     let top = climb::<K, W>(m, reached.path, risen);
     (trim::<K, W>(m, t, top), item)
->>>>>>> fde625fd5d384e65f54318dd57aa5358822dfd9b
 }

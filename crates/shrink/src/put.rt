@@ -21,45 +21,17 @@ fn is_low(len: usize, most: usize) -> bool
     2 * len < most
 }
 
-<<<<<<< HEAD
-// A leaf: nothing stands above one that is too empty.
-pub fn put_leaf<K: Kind, W: Store>(m: &mut W::Memory, b: u32, page: &Page<K::Leaf>) -> Option<Child>
-=======
 // Nothing stands above a page that is too empty.
 pub fn put<L: Level, W: Store>(m: &mut W::Memory, b: u32, page: &Page<L::Entry>) -> Option<Child>
->>>>>>> fde625fd5d384e65f54318dd57aa5358822dfd9b
     requires asks { page_asks ≤ (W.Store.memory m.old).left }
     requires there { Stored (W.Store.memory m.old).block b }
     requires few { length page.now ≤ L.Level.most }
     requires counted { L.Level.items_under page.now < 2 ^ 64 }
     ensures { Put L.Level.read L.Level.entry L.Level.most b page.now (W.Store.memory m.old) result (W.Store.memory m.new) }
 {
-<<<<<<< HEAD
-    store_page::<K::Leaf, W>(m, b, page);
-    if is_low(page.len(), K::leaf_cap()) {
-        return None;
-    }
-    Some(leaf_entry::<K>(b as u64, page))
-}
-
-// A node.
-pub fn put_node<K: Kind, W: Store>(m: &mut W::Memory, b: u32, page: &Page<K::Node>) -> Option<Child>
-    requires asks { page_asks ≤ (W.Store.memory m.old).left }
-    requires there { Stored (W.Store.memory m.old).block b }
-    requires few { page.now.len ≤ K.Kind.layout.node_cap }
-    requires counts { counts (entries K.Node.Codec.width K.Node.Codec.decode page.now) < 2 ^ 64 }
-    ensures { Put K.Kind.layout.children (entry_of K.Kind.layout) K.Kind.layout.node_cap b (entries K.Node.Codec.width K.Node.Codec.decode page.now) (W.Store.memory m.old) result (W.Store.memory m.new) }
-{
-    store_page::<K::Node, W>(m, b, page);
-    if is_low(page.len(), K::node_cap()) {
-        return None;
-    }
-    Some(node_entry::<K>(b as u64, page))
-=======
     store_page::<L, W>(m, b, page);
     if is_low(page.len(), L::most()) {
         return None;
     }
     Some(L::entry(b as u64, page))
->>>>>>> fde625fd5d384e65f54318dd57aa5358822dfd9b
 }

@@ -46,11 +46,7 @@ fn trim_node<K: Kind, W: Store>(m: &mut W::Memory, t: Tree) -> Tree
     requires top { (z : Start K.Item) × Topmost K.Kind.layout z t (W.Store.memory m.old) None }
     ensures { (z : Start K.Item) → Topmost K.Kind.layout z t (W.Store.memory m.old) None → Trimmed K.Kind.layout z result.height result.root (W.Store.memory m.new) }
 {
-<<<<<<< HEAD
-    let page = load_node::<K, W>(m, t.root);
-=======
     let page = load_page::<Nodes<K>, W>(m, t.root);
->>>>>>> fde625fd5d384e65f54318dd57aa5358822dfd9b
     if page.len() > 1 {
         return t;
     }
@@ -65,17 +61,7 @@ pub fn trim<K: Kind, W: Store>(m: &mut W::Memory, t: Tree, risen: Option<Child>)
 {
     match risen {
         Some(_) => t,
-<<<<<<< HEAD
-        None => {
-            if t.height == 1 {
-                trim_leaf::<K, W>(m, t)
-            } else {
-                trim_node::<K, W>(m, t)
-            }
-        }
-=======
         None if t.height == 1 => trim_leaf::<K, W>(m, t),
         None => trim_node::<K, W>(m, t),
->>>>>>> fde625fd5d384e65f54318dd57aa5358822dfd9b
     }
 }

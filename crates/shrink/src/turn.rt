@@ -35,11 +35,7 @@ fn replace_two<K: Kind>(page: &mut Page<K::Node>, at: usize, risen: Risen)
 }
 
 // The children at `at` and behind it share their entries, and the page has what stands above them then.
-<<<<<<< HEAD
-fn mend<K: Kind, W: Store>(m: &mut W::Memory, leaves: bool, page: &mut Page<K::Node>, at: usize)
-=======
 fn mend<L: Tier, W: Store>(m: &mut W::Memory, page: &mut Page<<L::Kind as Kind>::Node>, at: usize)
->>>>>>> fde625fd5d384e65f54318dd57aa5358822dfd9b
     requires asks { share_asks ≤ (W.Store.memory m.old).left }
     requires there { at + 1 < length page.old }
     requires few { length page.old ≤ page_limit }
@@ -48,13 +44,8 @@ fn mend<L: Tier, W: Store>(m: &mut W::Memory, page: &mut Page<<L::Kind as Kind>:
 {
     let a = page.get(at).block as u32;
     let b = page.get(at + 1).block as u32;
-<<<<<<< HEAD
-    let (one, two) = share::<K, W>(m, leaves, a, b);
-    replace_two::<K>(page, at, one, two);
-=======
     let risen = share::<L, W>(m, a, b);
     replace_two::<L::Kind>(page, at, risen);
->>>>>>> fde625fd5d384e65f54318dd57aa5358822dfd9b
 }
 
 // Of a child that is too empty and the neighbour that it shares with, the left one: the neighbour on the left, or the first child.
@@ -64,74 +55,28 @@ fn left_of(place: u32) -> usize
     place.saturating_sub(1) as usize
 }
 
-<<<<<<< HEAD
-// What stands above the child at `place` now.
-fn enter<K: Kind>(page: &mut Page<K::Node>, place: u32, entry: Child)
-    requires there { place < page.old.len }
-    requires valid { T (K.Node.Codec.valid entry) }
-    ensures { entries K.Node.Codec.width K.Node.Codec.decode page.new ≡ slice_set (entries K.Node.Codec.width K.Node.Codec.decode page.old) place entry }
-{
-    page.replace(place as usize, entry);
-}
-
-// The node at `block`, with what is below it put right: the child at `place` changed.
-fn put_right<K: Kind, W: Store>(
-    m: &mut W::Memory,
-    leaves: bool,
-    block: u32,
-    place: u32,
-=======
 // The node, with what is below it put right: its child at the branch's place changed.
 fn put_right<L: Tier, W: Store>(
     m: &mut W::Memory,
     node: Branch,
->>>>>>> fde625fd5d384e65f54318dd57aa5358822dfd9b
     risen: Option<Child>,
 ) -> Page<<L::Kind as Kind>::Node>
     requires { (s : Site L.Kind.Item) × Below L.Kind.Kind.layout L.Tier.at s node (W.Store.memory m.old) risen }
     ensures { (s : Site L.Kind.Item) → Below L.Kind.Kind.layout L.Tier.at s node (W.Store.memory m.old) risen → Ready L.Kind.Kind.layout s.start s.level node.block s.above (W.Store.memory m.new) result }
 {
-<<<<<<< HEAD
-    let mut page = load_node::<K, W>(m, block);
-    match risen {
-        Some(entry) => {
-            enter::<K>(&mut page, place, entry);
-            page
-        }
-        None => {
-            mend::<K, W>(m, leaves, &mut page, left_of(place));
-            page
-        }
-=======
     let mut page = load_page::<Nodes<L::Kind>, W>(m, node.block);
     match risen {
         Some(entry) => page.replace(node.place as usize, entry),
         None => mend::<L, W>(m, &mut page, left_of(node.place)),
->>>>>>> fde625fd5d384e65f54318dd57aa5358822dfd9b
     }
     page
 }
 
 // What stands above the node then, if it is full enough.
-<<<<<<< HEAD
-pub fn turn<K: Kind, W: Store>(
-    m: &mut W::Memory,
-    leaves: bool,
-    block: u32,
-    place: u32,
-    risen: Option<Child>,
-) -> Option<Child>
-    requires { (s : Site K.Item) × Below K.Kind.layout s leaves block place (W.Store.memory m.old) risen }
-    ensures { (s : Site K.Item) → Below K.Kind.layout s leaves block place (W.Store.memory m.old) risen → Climbing K.Kind.layout s.start (suc s.level) s.above (W.Store.memory m.new) result }
-{
-    let page = put_right::<K, W>(m, leaves, block, place, risen);
-    put_node::<K, W>(m, block, &page)
-=======
 pub fn turn<L: Tier, W: Store>(m: &mut W::Memory, node: Branch, risen: Option<Child>) -> Option<Child>
     requires { (s : Site L.Kind.Item) × Below L.Kind.Kind.layout L.Tier.at s node (W.Store.memory m.old) risen }
     ensures { (s : Site L.Kind.Item) → Below L.Kind.Kind.layout L.Tier.at s node (W.Store.memory m.old) risen → Climbing L.Kind.Kind.layout s.start (suc s.level) s.above (W.Store.memory m.new) result }
 {
     let page = put_right::<L, W>(m, node, risen);
     put::<Nodes<L::Kind>, W>(m, node.block, &page)
->>>>>>> fde625fd5d384e65f54318dd57aa5358822dfd9b
 }

@@ -34,11 +34,8 @@ impl<K: Kind> Level for Leaves<K> {
 
     ghost adds = { length-append };
 
-<<<<<<< HEAD
     ghost placed = { λ _ _. refl };
 
-=======
->>>>>>> fde625fd5d384e65f54318dd57aa5358822dfd9b
     fn most() -> usize {
         K::leaf_cap()
     }

@@ -35,11 +35,8 @@ impl<K: Kind> Level for Nodes<K> {
 
     ghost adds = { counts_add };
 
-<<<<<<< HEAD
     ghost placed = { λ _ _. refl };
 
-=======
->>>>>>> fde625fd5d384e65f54318dd57aa5358822dfd9b
     fn most() -> usize {
         K::node_cap()
     }

@@ -29,12 +29,8 @@ fn total<K: Kind, W: Store>(m: &mut W::Memory, b: u32) -> u64
     sum
 }
 
-<<<<<<< HEAD
-pub fn length<K: Kind, W: Store>(m: &mut W::Memory, t: Tree) -> u64
-=======
 #[tactic(auto, unfolding(tree::specs::Tall::tall_contents, tree::specs::Tall::Tall, tree::specs::Tree::Sound))]
 pub fn length<K: Kind, W: Store>(m: &mut W::Memory, t: Tree) -> u64
->>>>>>> a6711ad50ad2d5707a8b07e4719acc0f5c3cd14b
     requires lies { Lies K.Kind.layout (W.Store.memory m.old) t }
     requires asks { length_asks ≤ (W.Store.memory m.old).left }
     ensures value { result ≡ length (holds K.Kind.layout (W.Store.memory m.old).block t) }

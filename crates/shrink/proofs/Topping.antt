@@ -2,11 +2,10 @@
 use Rattle.std.proofs.Common.{◌≡◌, ℕ, zero, suc, ◌+◌, ◌<◌, ◌≤◌, List, [], ◌∷◌, length, get_or, Some, Option, sym, refl, ap, ◌∙◌, subst, append-nil, arith}
 use Rattle.page.specs.declared.child.Child.{Child}
 use Rattle.page.specs.Layout.{Layout, Lawful}
-use Rattle.store.specs.Memory.{Memory, Stored, asked, released}
-use Rattle.store.specs.Steps.{Mem, Ran, hit, held, held_in}
-use Rattle.store.proofs.Sums.{at_sum_to}
+use Rattle.store.specs.Memory.{Memory, asked, released}
+use Rattle.store.specs.Steps.{Mem, Ran, hit, held_in}
 use Rattle.store.proofs.Stepping.{step_same}
-use Rattle.store.proofs.Running.{ran_as, ran_part, ran_then, ran_asked, ran_more, ran_release, stored_held}
+use Rattle.store.proofs.Running.{ran_as, ran_part, ran_then, ran_asked, ran_more, ran_release}
 use Rattle.tree.specs.Pages.{page_asks, Reading}
 use Rattle.tree.specs.Tree.{total, flat, All, contents, uses, many, low, least, Sound, Root, Kept, ChildOk}
 use Rattle.tree.specs.Paths.{Path, before, behind, none}

@@ -21,7 +21,6 @@ use Rattle.tree.proofs.Leaves.{one_leaf}
 use Rattle.tree.proofs.Roots.{root_above}
 use Rattle.shrink.specs.Asks.{turn_asks, top_asks, leaf_asks}
 use Rattle.seek.specs.Asks.{descend_asks}
-
 use Rattle.shrink.specs.Putting.{Put}
 use Rattle.shrink.specs.Shrinking.{Start, Starts, Risen, Climbing, Ready}
 

@@ -1,4 +1,4 @@
-use Rattle.std.proofs.Common.{ap, length, List, arith}
+use Rattle.std.proofs.Common.{ap, length, arith}
 use Rattle.seek.specs.declared.target.Target.TheVariants.{Item}
 use Rattle.tree.proofs.Imaging.{few_entries}
 use Rattle.seek.proofs.Landing.{tall_some, leaf_stored, leaf_few, leaf_inside}

@@ -1,4 +1,4 @@
-use Rattle.std.proofs.Common.{length, ap, ◌∙◌, arith}
+use Rattle.std.proofs.Common.{ap, arith}
 use Rattle.store.specs.Memory.{Memory}
 use Rattle.tree.proofs.Imaging.{first_word}
 use Rattle.shrink.proofs.CodeTop.{top_stored, top_left, code_leaf_stays, code_leaf_gone}

@@ -1,4 +1,4 @@
-use Rattle.std.proofs.Common.{length, List, ap, arith}
+use Rattle.std.proofs.Common.{arith}
 use Rattle.tree.proofs.Imaging.{few_entries}
 use Rattle.shrink.proofs.CodeTurns.{turn_there, turn_few, turn_inside, code_inside, code_entered, code_next, code_mended}
 use Rattle.shrink.proofs.turn.put_right.Goals as goal

@@ -24,7 +24,7 @@ use Rattle.seek.specs.Asks.{descend_asks}
 use Rattle.seek.specs.Chosen.{Chosen}
 use Rattle.seek.specs.Descent.{more, run_after, nodes_full, Descended}
 use Rattle.seek.proofs.Landing.{contents_when_tall, tall_root}
-use Rattle.seek.proofs.Readings.{reading_none, reading_asked, reading_then, reading_blocks, reading_left, reading_stored}
+use Rattle.seek.proofs.Readings.{reading_none, reading_asked, reading_then, reading_blocks, reading_stored}
 use Rattle.seek.proofs.Runs.{nodes_full_le}
 
 module _ {E : Type 0} (K : Layout E) where
@@ -80,12 +80,6 @@ module _ {E : Type 0} (K : Layout E) where
     pub going_short : full < longest
     going_short = omega (arith, z.run, nodes_full_le K f ws, z.deep, z.shallow)
 
-    pub going_depth : length ws < longest
-    going_depth = omega (arith, z.deep, z.shallow)
-
-    pub going_asks : descend_asks ≤ m.left → 0 < m'.left
-    going_asks l = omega (arith, z.deep, z.shallow, reading_left _ m m' z.read)
-
     -- at the leaf
     pub going_end : level ≡ 0 → {full' : ℕ} → full' ≡ run_after full (length (K.items (m'.block b))) K.leaf_cap → {m'' : Memory} → m'' ≡ asked 1 m'
         → Descended K m t p target (record { path = ws; leaf = b; at = rest; full = full' }) m''
@@ -109,9 +103,6 @@ module _ {E : Type 0} (K : Layout E) where
 
       children_same : K.children (m'.block b) ≡ ks
       children_same = ap K.children same_page
-
-      pub asks_of_node : descend_asks ≤ m.left → page_asks ≤ m'.left
-      asks_of_node l = omega (arith, z.deep, z.shallow, reading_left _ m m' z.read)
 
       pub node_few : length (K.children (m'.block b)) ≤ K.node_cap
       unfolding Sound

@@ -4,3 +4,6 @@ pub mod Tops
 pub mod Runs
 pub mod Landing
 pub mod Going
+pub mod EntryWords
+pub mod Exchange
+pub mod Updating

@@ -1,3 +1,4 @@
 pub mod Asks
 pub mod Descent
 pub mod Chosen
+pub mod Items

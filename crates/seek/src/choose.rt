@@ -23,6 +23,7 @@ fn takes(count: u64, rest: u64, target: Target) -> bool
 }
 
 // The child of the node at block b that an item or a gap is under: counts are read until it is found.
+#[tactic(auto, using(crate::proofs::Counted::counts_next, crate::proofs::Readings::asked_next, page::proofs::Counts::counts_none))]
 pub fn choose_child<K: Kind, W: Store<M>, M>(m: &mut M, b: u32, at: u64, target: Target) -> Step
     requires asks { page_asks ≤ (W.Store.memory m.old).left }
     requires there { Stored (W.Store.memory m.old).block b }

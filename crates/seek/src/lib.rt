@@ -3,6 +3,8 @@
 
 mod choose;
 pub mod descend;
+mod entry;
+pub mod items;
 pub mod reached;
 pub mod size;
 mod step;

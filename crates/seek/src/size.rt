@@ -12,6 +12,7 @@ use tree::reads::{child_count, number_of_children, number_of_entries};
 use tree::top::Tree;
 
 // How many items are under the children of the node at block b: the count of each is read, and nothing else.
+#[tactic(auto, using(crate::proofs::Counted::counts_next, crate::proofs::Counted::counts_within, crate::proofs::Readings::asked_next, page::proofs::Counts::counts_none))]
 fn total<K: Kind, W: Store<M>, M>(m: &mut M, b: u32) -> u64
     requires asks { page_asks ≤ (W.Store.memory m.old).left }
     requires there { Stored (W.Store.memory m.old).block b }
@@ -34,11 +35,9 @@ pub fn length<K: Kind, W: Store<M>, M>(m: &mut M, t: Tree) -> u64
     ensures value { result ≡ length (holds K.Kind.layout (W.Store.memory m.old).block t) }
     ensures same { Reading length_asks (W.Store.memory m.old) (W.Store.memory m.new) }
 {
-    if t.height == 0 {
-        return 0;
+    match t.height {
+        0 => 0,
+        1 => number_of_entries::<W, M>(m, t.root),
+        _ => total::<K, W, M>(m, t.root),
     }
-    if t.height == 1 {
-        return number_of_entries::<W, M>(m, t.root);
-    }
-    total::<K, W, M>(m, t.root)
 }

@@ -217,13 +217,13 @@ module _ {E : Type 0} (K : Layout E) where
     turn k m' s' r' = went k m' s' r'.first r'.second
 
 -- an entry gives way to one or two
-pub put_one : (ks : List Child) (i : ℕ) (one : Child) → i < length ks → set ks i one ≡ placed ks i (record { first = one; second = None })
+pub placed_one : (ks : List Child) (i : ℕ) (r : Risen) → i < length ks → r.second ≡ None → set ks i r.first ≡ placed ks i r
 unfolding one_or_two
-put_one ks i one l = set_split ks i one l
+placed_one ks i r l e = set_split ks i r.first l ∙ ap (λ (o : Option Child). placed ks i (record { first = r.first; second = o })) (sym e)
 
-pub put_two : (ks : List Child) (i : ℕ) (one other : Child) → take i ks ++ (one ∷ (other ∷ drop (i + 1) ks)) ≡ placed ks i (record { first = one; second = Some other })
+pub placed_two : (ks : List Child) (i : ℕ) (r : Risen) (other : Child) → r.second ≡ Some other → take i ks ++ (r.first ∷ (other ∷ drop (i + 1) ks)) ≡ placed ks i r
 unfolding one_or_two
-put_two ks i one other = ap (λ (n : ℕ). take i ks ++ (one ∷ (other ∷ drop n ks))) (add-one i)
+placed_two ks i r other e = ap (λ (n : ℕ). take i ks ++ (r.first ∷ (other ∷ drop n ks))) (add-one i) ∙ ap (λ (o : Option Child). placed ks i (record { first = r.first; second = o })) (sym e)
 
 -- a part of the climb: the nodes ws' are left of ws
 module _ {E : Type 0} (K : Layout E) (ws : List Branch) (m : Memory) (s : List ℕ) (r : Risen) where

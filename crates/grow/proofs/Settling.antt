@@ -21,20 +21,8 @@ use Rattle.grow.specs.Settle.{lower, upper, Parted, Filled, InOne, InTwo, Settle
 pub beside_fits : (b : ℕ) (u : ℕ → ℕ) (f : Mem) → Stored f b → u b ≡ 0 → Stocked u f → (c : ℕ) → hit b c + u c ≤ held f c
 beside_fits b u f s e t = by_place (λ c. hit b c + u c ≤ held f c) b (omega (arith, hit_same b, stored_held f b s)) (λ c n. omega (arith, hit_other b c n, t.fits c))
 
--- one page
+-- what stands above two pages
 module _ {X : Type 0} (read : List ℕ → List X) (entry : ℕ → List X → Child) (cap b : ℕ) (xs : List X) (m m' : Memory) (s : List ℕ) where
-  pub in_one : Stored m.block b → Stocked (uses s) m.block → uses s b ≡ 0 → Writing page_asks read b xs m m' → (one : Child) → length xs ≤ cap → one ≡ entry b xs → InOne read entry cap settle_asks b xs m s one m' s
-  in_one t k z w one l e = record {
-    few = l;
-    is = e;
-    reads = wrote_reads read m.block m'.block b xs w.wrote;
-    there = stored_after read m.block m'.block b b xs w.wrote t;
-    ran = ran_beside settle_asks (hit b) (hit b) m m' (ran_more page_asks (hit b) (hit b) m m' w.ran settle_asks (omega arith)) (uses s);
-    stocked = stocked_beside (uses s) m.block (hit b) (hit b) m'.block w.ran.step (beside_fits b (uses s) m.block t z k) k;
-    same = refl;
-  }
-
-  -- what stands above two pages
   pub in_both : ((d : ℕ) (ys : List X) → (entry d ys).block ≡ d) → (s' : List ℕ) (one other : Child) (d : ℕ) (ys zs : List X) → cap < length xs → Parted read settle_asks b xs m s d m' s'
       → one ≡ entry b ys → ys ≡ lower xs → other ≡ entry d zs → zs ≡ upper xs → InTwo read entry cap settle_asks b xs m s one other m' s'
   in_both at_block s' one other d ys zs l p e q e' q' =
@@ -70,8 +58,8 @@ module _ (d : ℕ) (s s' : List ℕ) (tk : s ≡ d ∷ s') where
     stocked₁ : Stocked (uses s) m₁.block
     stocked₁ = stocked_beside (uses s) m.block (hit b) (hit b) m₁.block w₁.ran.step (beside_fits b (uses s) m.block t z k) k
 
-    pub there₁ : Stored m₁.block d
-    there₁ = taken_there m₁.block stocked₁
+    pub upper_there : Stored m₁.block d
+    upper_there = taken_there m₁.block stocked₁
 
     apart : b ≡ d → ⊥
     apart e = omega (arith, z, used d, hit_same d, ap (uses s) e)
@@ -87,28 +75,3 @@ module _ (d : ℕ) (s s' : List ℕ) (tk : s ≡ d ∷ s') where
       stocked = p.stocked;
       fewer = p.fewer;
     }
-
--- after a page was read, of which the entries are given
-module _ {X : Type 0} (read : List ℕ → List X) (entry : ℕ → List X → Child) (cap j k b : ℕ) (xs ys : List X) (m m₁ m' : Memory) (s s' : List ℕ) (r : Risen) (p : Reading j m m₁) (e : xs ≡ ys) where
-  first_then : (u : ℕ → ℕ) → (v : ℕ → ℕ) → Ran k u v m₁ m' → Ran (j + k) u v m m'
-  first_then u v = ran_then j k u u v m m₁ m' (reading_ran j m m₁ p u)
-
-  pub settled_after : Settled read entry cap k b xs m₁ s r m' s' → Settled read entry cap (j + k) b ys m s r m' s'
-  settled_after = subst (λ (zs : List X). Settled read entry cap k b xs m₁ s r m' s' → Settled read entry cap (j + k) b zs m s r m' s') e (go r.second)
-    where
-      go : (o : Option Child) → Settled read entry cap k b xs m₁ s (record { first = r.first; second = o }) m' s' → Settled read entry cap (j + k) b xs m s (record { first = r.first; second = o }) m' s'
-      go None q = record { few = q.few; is = q.is; reads = q.reads; there = q.there; ran = first_then _ _ q.ran; stocked = q.stocked; same = q.same }
-      go (Some o) q = record {
-        full = q.full;
-        first_is = q.first_is;
-        second_is = q.second_is;
-        parted = record {
-          first = q.parted.first;
-          second = q.parted.second;
-          there = q.parted.there;
-          there' = q.parted.there';
-          ran = first_then _ _ q.parted.ran;
-          stocked = q.parted.stocked;
-          fewer = q.parted.fewer;
-        };
-      }

@@ -17,6 +17,7 @@ use tree::path::{Branch, Path};
 use tree::risen::Risen;
 
 // The entry at a place of a node gives way to one or two.
+#[tactic(auto, using(crate::proofs::Climbing::placed_one, crate::proofs::Climbing::placed_two))]
 fn put<K: Kind>(page: &mut Page<K::Node>, place: usize, risen: Risen)
     requires there { place < length page.old }
     requires room { length page.old < page_limit }

@@ -7,6 +7,7 @@ ghost use Rattle.grow.specs.Rises.{Spent, CanRise};
 ghost use Rattle.grow.specs.Crown.{Crowns};
 ghost use Rattle.grow.specs.Settle.{Filled};
 
+use crate::taken::take_block;
 use page::child::Child;
 use page::kind::Kind;
 use page::level::nodes::Nodes;
@@ -34,8 +35,8 @@ fn node_above<K: Kind, W: Store>(
     let mut page = Page::new();
     page.push(one);
     page.push(other);
-    let block = reserve.take().into_block();
-    store_page::<Nodes<K>, W>(m, block, &page);
+    let block = take_block(reserve);
+    store_page::<Nodes<K>, W, M>(m, block, &page);
     block
 }
 

@@ -6,6 +6,7 @@ ghost use Rattle.store.specs.Reserve.{uses};
 ghost use Rattle.grow.specs.Asks.{settle_asks};
 ghost use Rattle.grow.specs.Settle.{lower, upper, Parted, Settled};
 
+use crate::taken::take_block;
 use page::level::Level;
 use page::page::Page;
 use store::Store;
@@ -38,9 +39,9 @@ fn split<L: Level, W: Store>(
     ensures parted { Parted L.Level.read settle_asks b page.old (W.Store.memory m.old) reserve.old result.block (W.Store.memory m.new) reserve.new }
 {
     let upper = page.split_off(page.len() / 2);
-    let block = reserve.take().into_block();
-    store_page::<L, W>(m, b, page);
-    store_page::<L, W>(m, block, &upper);
+    let block = take_block(reserve);
+    store_page::<L, W, M>(m, b, page);
+    store_page::<L, W, M>(m, block, &upper);
     Upper { block, page: upper }
 }
 

@@ -1,10 +1,8 @@
-use Rattle.std.proofs.Common.{◌∷◌, ap, sym, ◌∙◌}
 use Rattle.grow.proofs.Settling.{taken_there, filled}
 use Rattle.grow.proofs.root.node_above.Goals as goal
 
 pub store_page-requires-clause-there : goal.store_page-requires-clause-there
-store_page-requires-clause-there g c = taken_there _ _ _ (c.take.ensures ∙ ap (λ b. b ∷ c.take.new.self) (sym c.into_block-block.ensures.block)) _ c.requires.stocked
+store_page-requires-clause-there g c = taken_there _ _ _ c.take_block-block.ensures _ c.requires.stocked
 
 pub returns : goal.returns
-returns g c = filled _ _ _ (c.take.ensures ∙ ap (λ b. b ∷ c.take.new.self) (sym c.into_block-block.ensures.block)) _ _ _ _ c.requires.stocked
-    (rw (c.new-page.ensures.after) at (rw (c.push.ensures.after) at (rw (c.push-2.ensures.after) at c.store_page.ensures)))
+returns g c = filled _ _ _ c.take_block-block.ensures _ _ _ _ c.requires.stocked (rw c.new-page.ensures.after at (rw c.push.ensures.after at (rw c.push-2.ensures.after at c.store_page.ensures)))

@@ -36,7 +36,7 @@ fn node_above<K: Kind, W: Store>(
     page.push(one);
     page.push(other);
     let block = take_block(reserve);
-    store_page::<Nodes<K>, W, M>(m, block, &page);
+    store_page::<Nodes<K>, W>(m, block, &page);
     block
 }
 

@@ -40,8 +40,8 @@ fn split<L: Level, W: Store>(
 {
     let upper = page.split_off(page.len() / 2);
     let block = take_block(reserve);
-    store_page::<L, W, M>(m, b, page);
-    store_page::<L, W, M>(m, block, &upper);
+    store_page::<L, W>(m, b, page);
+    store_page::<L, W>(m, block, &upper);
     Upper { block, page: upper }
 }
 

@@ -1,4 +1,3 @@
-pub mod Stacks
 pub mod Low
 pub mod Clearing
-pub mod Going
+pub mod Ends

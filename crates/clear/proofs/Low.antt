@@ -1,8 +1,8 @@
 -- How many blocks a tree has, by its height.
-use Rattle.std.proofs.Common.{◌≡◌, ℕ, zero, suc, ◌≤◌, arith}
+use Rattle.std.proofs.Common.{◌≡◌, ℕ, zero, suc}
 use Rattle.page.specs.Layout.{Layout}
-use Rattle.store.specs.Steps.{Mem, held, held_in, sum_to}
-use Rattle.store.proofs.Sums.{sum_to_le, sum_to_none}
+use Rattle.store.specs.Steps.{Mem, sum_to}
+use Rattle.store.proofs.Sums.{sum_to_none}
 use Rattle.tree.specs.Tall.{tall_uses, Tall}
 use Rattle.tree.proofs.Counting.{blocks_used}
 use Rattle.clear.specs.Given.{tall_blocks}
@@ -13,6 +13,3 @@ module _ {E : Type 0} (K : Layout E) where
   unfolding Tall tall_uses tall_blocks
   tall_used zero f b w = sum_to_none 1048576
   tall_used (suc h) f b w = blocks_used K h f b w.sound
-
-  pub tall_held : (h : ℕ) (f : Mem) (b : ℕ) → Tall K h f b → ((c : ℕ) → tall_uses K h f b c ≤ held f c) → tall_blocks K h f b ≤ held_in f
-  tall_held h f b w a = omega (arith, tall_used h f b w, sum_to_le 1048576 (tall_uses K h f b) (held f) (λ i l. a i))

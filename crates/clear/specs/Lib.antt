@@ -1,4 +1,2 @@
 pub mod Given
-pub mod Sizes
-pub mod Trail
 pub mod Visits

@@ -1,11 +1,10 @@
 -- A turn of the climb: a node takes what came up.
-use Rattle.std.proofs.Common.{◌≡◌, ℕ, suc, ◌+◌, ◌-◌, ◌<◌, ◌≤◌, Bool, T, List, [], ◌∷◌, ◌++◌, length, get_or, take, drop, set, Some, None, Option, sym, refl, ap, ◌∙◌, subst, add-one, arith, length-append, length-drop, take-append-drop, length-take}
+use Rattle.std.proofs.Common.{◌≡◌, ℕ, suc, ◌+◌, ◌-◌, ◌*◌, ◌<◌, ◌≤◌, Bool, T, List, [], ◌∷◌, ◌++◌, length, get_or, take, drop, set, Some, None, Option, sym, refl, ap, ◌∙◌, subst, add-one, arith, length-append, length-drop, take-append-drop, length-take}
 use lib.Seq.{set_split}
 use Rattle.std.proofs.lemmas.Bool.{eq-eqb}
 use Rattle.page.specs.declared.child.Child.{Child}
 use Rattle.page.specs.Layout.{Layout, Lawful, counts, entry_of}
 use Rattle.page.proofs.Counts.{counts_none, counts_cons, counts_append}
-use Rattle.store.specs.declared.reserve.Reserve.{Reserve}
 use Rattle.store.specs.Memory.{Memory, Stored}
 use Rattle.store.specs.Steps.{Mem, Ran, hit, held}
 use Rattle.store.specs.Reserve.{uses}
@@ -13,16 +12,19 @@ use Rattle.store.proofs.Sums.{hit_same}
 use Rattle.store.proofs.Stepping.{step_fits}
 use Rattle.store.proofs.Running.{held_le}
 use Rattle.tree.specs.Tree.{flat, All, contents, Sound, contents_of, ChildOk}
-use Rattle.tree.specs.Paths.{Branch, left, right, Path, before, behind, around}
+use Rattle.tree.specs.declared.path.Branch.{Branch}
+use Rattle.tree.specs.Paths.{left, right, Path, before, behind, around}
 use Rattle.tree.specs.Growing.{Loose, Growing, now}
-use Rattle.tree.specs.Climb.{one_or_two, branches, Start}
+use Rattle.tree.specs.Climb.{one_or_two, risen_list, Start}
+use Rattle.tree.specs.declared.risen.Risen.{Risen}
 use Rattle.tree.proofs.Each.{All-left, All-right}
 use Rattle.tree.proofs.Entries.{counts_right}
 use Rattle.tree.proofs.Paths.{seen}
 use Rattle.tree.proofs.Mending.{rising_page}
 use Rattle.tree.proofs.Grows.{grow_one, grow_two}
+use Rattle.grow.specs.Asks.{turn_asks}
 use Rattle.grow.specs.Settle.{lower, upper, Settled}
-use Rattle.grow.specs.Rises.{placed, PutIn, Valid, Spent, needed, Ready, Rises}
+use Rattle.grow.specs.Rises.{placed, Valid, Spent, needed, Ready, Rises, Climbs}
 
 -- lists
 pub length_one_or_two : (one : Child) (two : Option Child) → (1 ≤ length (one_or_two one two)) × (length (one_or_two one two) ≤ 2)
@@ -30,14 +32,17 @@ unfolding one_or_two
 length_one_or_two one None = (omega arith, omega arith)
 length_one_or_two one (Some other) = (omega arith, omega arith)
 
-pub length_placed : (ks : List Child) (i : ℕ) (one : Child) (two : Option Child) → i < length ks → length (placed ks i one two) + 1 ≡ length ks + length (one_or_two one two)
-length_placed ks i one two l = omega (
+pub length_placed : (ks : List Child) (i : ℕ) (r : Risen) → i < length ks → length (placed ks i r) + 1 ≡ length ks + length (risen_list r)
+length_placed ks i r l = omega (
   arith,
-  length-append (take i ks) (one_or_two one two ++ drop (suc i) ks),
-  length-append (one_or_two one two) (drop (suc i) ks),
+  length-append (take i ks) (risen_list r ++ drop (suc i) ks),
+  length-append (risen_list r) (drop (suc i) ks),
   length-take i ks,
   length-drop (suc i) ks,
 )
+
+pub few_placed : (ks : List Child) (i : ℕ) (r : Risen) → i < length ks → (0 < length (placed ks i r)) × (length (placed ks i r) ≤ length ks + 1)
+few_placed ks i r l = let n = length_placed ks i r l in let k = length_one_or_two r.first r.second in (omega (arith, n, k.0), omega (arith, n, k.1))
 
 -- runs
 pub spent_none : (m : Memory) → Spent 0 m m
@@ -49,10 +54,18 @@ spent_ran k u u' m m' r = record { number = r.number; asks = r.asks; top = r.top
 pub spent_then : (j k n : ℕ) (m m' m'' : Memory) → j + k ≤ n → Spent j m m' → Spent k m' m'' → Spent n m m''
 spent_then j k n m m' m'' l p q = record { number = omega (arith, p.number, q.number); asks = omega (arith, p.asks, q.asks); top = q.top ∙ p.top; failed = q.failed ∙ p.failed }
 
-pub spent_settled : {X : Type 0} (read : List ℕ → List X) (entry : ℕ → List X → Child) (cap k b : ℕ) (xs : List X) (m : Memory) (s : Reserve) (one : Child) (two : Option Child) (m' : Memory) (s' : Reserve)
-    → Settled read entry cap k b xs m s one two m' s' → Spent k m m'
-spent_settled read entry cap k b xs m s one None m' s' p = spent_ran k _ _ m m' p.ran
-spent_settled read entry cap k b xs m s one (Some other) m' s' p = spent_ran k _ _ m m' p.parted.ran
+-- what a page takes to go to its block
+module _ {X : Type 0} (read : List ℕ → List X) (entry : ℕ → List X → Child) (cap k b : ℕ) (xs : List X) (m : Memory) (s : List ℕ) (m' : Memory) (s' : List ℕ) where
+  pub record Went : Type 0 where
+    pub spent : Spent k m m'
+    pub fewer : length s' ≤ length s
+
+  pub settled_went : (r : Risen) → Settled read entry cap k b xs m s r m' s' → Went
+  settled_went r = go r.second
+    where
+      go : (o : Option Child) → Settled read entry cap k b xs m s (record { first = r.first; second = o }) m' s' → Went
+      go None p = record { spent = spent_ran k _ _ m m' p.ran; fewer = omega (arith, ap length p.same) }
+      go (Some other) p = record { spent = spent_ran k _ _ m m' p.parted.ran; fewer = omega (arith, p.parted.fewer) }
 
 module _ {E : Type 0} (K : Layout E) where
   counts_loose : (h : ℕ) (g : Mem) (ks : List Child) → All (Loose K h g) ks → counts ks ≡ length (contents_of K h g ks)
@@ -65,16 +78,15 @@ module _ {E : Type 0} (K : Layout E) where
     valid_loose : (k : Child) → Loose K h g k → T (valid k)
     valid_loose k l = subst (λ (x : ℕ). T (valid (record { count = k.count; block = k.block; summary = x }))) (sym l.summed) (law k.count k.block (contents K h g k.block))
 
-    pub valid_come : (one : Child) (two : Option Child) → All (Loose K h g) (one_or_two one two) → Valid valid one two
+    valid_each : (one : Child) (two : Option Child) → All (Loose K h g) (one_or_two one two) → Valid valid (record { first = one; second = two })
     unfolding one_or_two All
-    valid_come one None a = (valid_loose one a.0, tt)
-    valid_come one (Some other) a = (valid_loose one a.0, valid_loose other a.1.0)
+    valid_each one None a = (valid_loose one a.0, tt)
+    valid_each one (Some other) a = (valid_loose one a.0, valid_loose other a.1.0)
 
-  branches_suc : (bs ps : List ℕ) (d e : ℕ) → d ≡ suc e → branches bs ps d ≡ record { block = get_or bs e 0; place = get_or ps e 0 } ∷ branches bs ps e
-  unfolding branches
-  branches_suc bs ps d e k = ap (branches bs ps) k
+    pub valid_come : (r : Risen) → All (Loose K h g) (risen_list r) → Valid valid r
+    valid_come r = valid_each r.first r.second
 
-  module _ (lw : Lawful K) (z : Start E) (w : Branch) (ws : List Branch) (m : Memory) (s : Reserve) (one : Child) (two : Option Child) (v : Rises K z (w ∷ ws) m s one two) where
+  module _ (lw : Lawful K) (z : Start E) (w : Branch) (ws : List Branch) (m : Memory) (s : List ℕ) (r : Risen) (v : Rises K z (w ∷ ws) m s r) where
     abbrev f : Mem
     f = z.memory
 
@@ -82,7 +94,7 @@ module _ {E : Type 0} (K : Layout E) where
     g = m.block
 
     abbrev ms : List Child
-    ms = one_or_two one two
+    ms = risen_list r
 
     abbrev h : ℕ
     h = v.grows.level
@@ -104,8 +116,8 @@ module _ {E : Type 0} (K : Layout E) where
     unfolding Path
     sound_f = (seen K f (suc h) w.block ws z.level z.top grown.rising.path.2).sound_seen grown.was
 
-    is_now : placed ks w.place one two ≡ now K f w ms
-    is_now = ap (λ (x : List ℕ). placed (K.children x) w.place one two) page
+    is_now : placed ks w.place r ≡ now K f w ms
+    is_now = ap (λ (x : List ℕ). placed (K.children x) w.place r) page
 
     there : Stored g w.block
     unfolding Sound
@@ -136,11 +148,11 @@ module _ {E : Type 0} (K : Layout E) where
     )
 
     -- where it splits, it was full, and two came up
-    full : K.node_cap < length (placed ks w.place one two) → 1 + needed K f ws ≤ s.count
+    full : K.node_cap < length (placed ks w.place r) → 1 + needed K f ws ≤ length s
     unfolding needed
     full l =
-        let len = length_placed ks w.place one two inside in
-        let e : length (K.children (f w.block)) ≡ K.node_cap = omega (arith, len, few, length_one_or_two one two, ap (λ (x : List ℕ). length (K.children x)) page) in
+        let len = length_placed ks w.place r inside in
+        let e : length (K.children (f w.block)) ≡ K.node_cap = omega (arith, len, few, length_one_or_two r.first r.second, ap (λ (x : List ℕ). length (K.children x)) page) in
         let q : 2 ≤ length ms = omega (arith, len, few) in
         rw (eq-eqb (length (K.children (f w.block))) K.node_cap e) at (v.enough q)
 
@@ -148,21 +160,21 @@ module _ {E : Type 0} (K : Layout E) where
     unfolding around
     fits c = omega (arith, step_fits _ _ (around K f h (w ∷ ws)) f g grown.rising.step (λ y. omega (arith, grown.rising.fits y, (seen K f h v.grows.block (w ∷ ws) z.level z.top grown.rising.path).uses_seen y)) c)
 
-    pub ready : (valid : Child → Bool) → ((n b : ℕ) (xs : List E) → T (valid (record { count = n; block = b; summary = K.summary xs }))) → Ready K valid w.block w.place m s one two
+    pub ready : (valid : Child → Bool) → ((n b : ℕ) (xs : List E) → T (valid (record { count = n; block = b; summary = K.summary xs }))) → Ready K valid w m s r
     ready valid law = record {
       there = there;
       few = few;
       inside = inside;
-      can = valid_come valid law h g one two grown.loose;
+      can = valid_come valid law h g r grown.loose;
       small = omega (arith, small, ap counts is_now, v.small);
       room = λ l. omega (arith, full l);
       stocked = v.stocked;
       beside = omega (arith, fits w.block, hit_same w.block, held_le g w.block);
     }
 
-    pub turn : (k : ℕ) (m' : Memory) (s' : Reserve) (one' : Child) (two' : Option Child) → Settled K.children (entry_of K) K.node_cap k w.block (placed ks w.place one two) m s one' two' m' s' → Rises K z ws m' s' one' two'
+    went : (k : ℕ) (m' : Memory) (s' : List ℕ) (one' : Child) (two' : Option Child) → Settled K.children (entry_of K) K.node_cap k w.block (placed ks w.place r) m s (record { first = one'; second = two' }) m' s' → Rises K z ws m' s' (record { first = one'; second = two' })
     unfolding one_or_two
-    turn k m' s' one' None p = record {
+    went k m' s' one' None p = record {
       grows = record {
         level = suc h;
         block = w.block;
@@ -179,7 +191,7 @@ module _ {E : Type 0} (K : Layout E) where
       enough = λ l. absurd (omega arith);
       small = v.small;
     }
-    turn k m' s' one' (Some other) p = record {
+    went k m' s' one' (Some other) p = record {
       grows = record {
         level = suc h;
         block = w.block;
@@ -187,7 +199,7 @@ module _ {E : Type 0} (K : Layout E) where
             (subst (λ (x : Child). Growing K f z.stock z.level z.top z.goal (suc h) w.block ws m'.block (uses s') (entry_of K w.block (lower (now K f w ms)) ∷ x ∷ [])) (sym (p.second_is ∙ ap (λ (xs : List Child). entry_of K other.block (upper xs)) is_now))
             (grow_two K lw f z.stock z.level z.top z.goal h v.grows.block w ws g m'.block (uses s) (uses s') ms grown other.block (record {
               too_many = omega (arith, p.full, ap length is_now);
-              not_more = omega (arith, length_placed ks w.place one two inside, ap length is_now, few, length_one_or_two one two, lw.node_room);
+              not_more = omega (arith, length_placed ks w.place r inside, ap length is_now, few, length_one_or_two r.first r.second, lw.node_room);
               first = p.parted.first ∙ ap lower is_now;
               second = p.parted.second ∙ ap upper is_now;
               there = p.parted.there;
@@ -201,24 +213,32 @@ module _ {E : Type 0} (K : Layout E) where
       small = v.small;
     }
 
-  -- the same for the last of the first d branches of a path
-  module _ (bs ps : List ℕ) (d : ℕ) (l : 0 < d) (z : Start E) (m : Memory) (s : Reserve) (one : Child) (two : Option Child) (v : Rises K z (branches bs ps d) m s one two) where
-    there_is : Rises K z (record { block = get_or bs (d - 1) 0; place = get_or ps (d - 1) 0 } ∷ branches bs ps (d - 1)) m s one two
-    there_is = subst (λ (ws : List Branch). Rises K z ws m s one two) (branches_suc bs ps d (d - 1) (omega arith)) v
-
-    pub ready_at : (valid : Child → Bool) → ((n b : ℕ) (xs : List E) → T (valid (record { count = n; block = b; summary = K.summary xs }))) → Lawful K → Ready K valid (get_or bs (d - 1) 0) (get_or ps (d - 1) 0) m s one two
-    ready_at valid law lw = ready lw z _ _ m s one two there_is valid law
-
-    pub turn_at : Lawful K → (k : ℕ) (m' : Memory) (s' : Reserve) (one' : Child) (two' : Option Child)
-        → Settled K.children (entry_of K) K.node_cap k (get_or bs (d - 1) 0) (placed (K.children (m.block (get_or bs (d - 1) 0))) (get_or ps (d - 1) 0) one two) m s one' two' m' s' → Rises K z (branches bs ps (d - 1)) m' s' one' two'
-    turn_at lw k m' s' one' two' p = turn lw z _ _ m s one two there_is k m' s' one' two' p
-
-  pub at_last : (bs ps : List ℕ) (d : ℕ) (z : Start E) (m : Memory) (s : Reserve) (one : Child) (two : Option Child) → d ≡ 0 → Rises K z (branches bs ps d) m s one two → Rises K z [] m s one two
-  unfolding branches
-  at_last bs ps d z m s one two e v = subst (λ (x : ℕ). Rises K z (branches bs ps x) m s one two) e v
+    pub turn : (k : ℕ) (m' : Memory) (s' : List ℕ) (r' : Risen) → Settled K.children (entry_of K) K.node_cap k w.block (placed ks w.place r) m s r' m' s' → Rises K z ws m' s' r'
+    turn k m' s' r' = went k m' s' r'.first r'.second
 
 -- an entry gives way to one or two
-pub put_placed : (ks xs ys : List Child) (i : ℕ) (one : Child) (two : Option Child) → xs ≡ ks → i < length ks → PutIn xs ys i one two → ys ≡ placed ks i one two
+pub placed_one : (ks : List Child) (i : ℕ) (r : Risen) → i < length ks → r.second ≡ None → set ks i r.first ≡ placed ks i r
 unfolding one_or_two
-put_placed ks xs ys i one None e l p = p ∙ ap (λ (zs : List Child). set zs i one) e ∙ set_split ks i one l
-put_placed ks xs ys i one (Some other) e l p = p ∙ ap (λ (zs : List Child). take i zs ++ (one ∷ (other ∷ drop (i + 1) zs))) e ∙ ap (λ (n : ℕ). take i ks ++ (one ∷ (other ∷ drop n ks))) (add-one i)
+placed_one ks i r l e = set_split ks i r.first l ∙ ap (λ (o : Option Child). placed ks i (record { first = r.first; second = o })) (sym e)
+
+pub placed_two : (ks : List Child) (i : ℕ) (r : Risen) (other : Child) → r.second ≡ Some other → take i ks ++ (r.first ∷ (other ∷ drop (i + 1) ks)) ≡ placed ks i r
+unfolding one_or_two
+placed_two ks i r other e = ap (λ (n : ℕ). take i ks ++ (r.first ∷ (other ∷ drop n ks))) (add-one i) ∙ ap (λ (o : Option Child). placed ks i (record { first = r.first; second = o })) (sym e)
+
+-- a part of the climb: the nodes ws' are left of ws
+module _ {E : Type 0} (K : Layout E) (ws : List Branch) (m : Memory) (s : List ℕ) (r : Risen) where
+  pub record Climbing (ws' : List Branch) (m' : Memory) (s' : List ℕ) (r' : Risen) : Type 0 where
+    pub shorter : length ws' ≤ length ws
+    pub spent : Spent ((length ws - length ws') * turn_asks) m m'
+    pub fewer : length s' ≤ length s
+    pub climbs : Climbs K ws m s r ws' m' s' r'
+
+  -- a turn more
+  pub climbing_more : Lawful K → (w : Branch) (ws' : List Branch) (m' m'' : Memory) (s' s'' : List ℕ) (r' r'' : Risen) → Climbing (w ∷ ws') m' s' r'
+      → Settled K.children (entry_of K) K.node_cap turn_asks w.block (placed (K.children (m'.block w.block)) w.place r') m' s' r'' m'' s'' → Climbing ws' m'' s'' r''
+  climbing_more lw w ws' m' m'' s' s'' r' r'' p q = let t = settled_went _ _ _ turn_asks _ _ m' s' m'' s'' r'' q in record {
+    shorter = omega (arith, p.shorter);
+    spent = spent_then _ turn_asks _ m m' m'' (omega (arith, p.shorter)) p.spent t.spent;
+    fewer = omega (arith, p.fewer, t.fewer);
+    climbs = λ z a. turn K lw z w ws' m' s' r' (p.climbs z a) turn_asks m'' s'' r'' q;
+  }

@@ -2,16 +2,17 @@
 use Rattle.std.proofs.Common.{◌≡◌, ℕ, zero, suc, ◌+◌, ◌<◌, ◌≤◌, Bool, T, List, [], ◌∷◌, length, Some, None, Option, sym, subst, arith}
 use Rattle.page.specs.declared.child.Child.{Child}
 use Rattle.page.specs.Layout.{Layout, Lawful}
-use Rattle.store.specs.declared.reserve.Reserve.{Reserve}
 use Rattle.store.specs.Memory.{Memory, Stored}
 use Rattle.store.specs.Steps.{Mem}
 use Rattle.store.specs.Reserve.{uses}
 use Rattle.tree.specs.Tree.{All, Sound, Root}
 use Rattle.tree.specs.Growing.{Loose}
 use Rattle.tree.specs.Climb.{one_or_two, Start}
+use Rattle.tree.specs.declared.risen.Risen.{Risen}
 use Rattle.tree.proofs.Grown.{grown_one, grown_two}
 use Rattle.grow.specs.Rises.{Valid, needed, Rises}
-use Rattle.grow.specs.Crown.{Above, Crowned}
+use Rattle.grow.specs.Settle.{Filled}
+use Rattle.grow.specs.Crown.{Crowned}
 use Rattle.grow.proofs.Climbing.{valid_come}
 
 module _ {E : Type 0} (K : Layout E) where
@@ -25,36 +26,36 @@ module _ {E : Type 0} (K : Layout E) where
   first_stored h f one None a = sound_stored h f one.block a.0.sound
   first_stored h f one (Some other) a = sound_stored h f one.block a.0.sound
 
-  module _ (z : Start E) (m : Memory) (s : Reserve) (one : Child) (two : Option Child) (v : Rises K z [] m s one two) where
-    pub low_block : one.block < 1048576
-    low_block = (first_stored v.grows.level m.block one two v.grows.growing.loose).0
+  module _ (z : Start E) (m : Memory) (s : List ℕ) (r : Risen) (v : Rises K z [] m s r) where
+    pub low_block : r.first.block < 1048576
+    low_block = (first_stored v.grows.level m.block r.first r.second v.grows.growing.loose).0
 
-    pub valid_two : (valid : Child → Bool) → ((n b : ℕ) (xs : List E) → T (valid (record { count = n; block = b; summary = K.summary xs }))) → (other : Child) → two ≡ Some other → T (valid one) × T (valid other)
-    valid_two valid law other e = subst (Valid valid one) e (valid_come K valid law v.grows.level m.block one two v.grows.growing.loose)
+    pub can_write : (valid : Child → Bool) → ((n b : ℕ) (xs : List E) → T (valid (record { count = n; block = b; summary = K.summary xs }))) → (other : Child) → r.second ≡ Some other → T (valid r.first) × T (valid other)
+    can_write valid law other e = subst (λ (o : Option Child). Valid valid (record { first = r.first; second = o })) e (valid_come K valid law v.grows.level m.block r v.grows.growing.loose)
 
-    pub spare : (other : Child) → two ≡ Some other → 0 < s.count
+    pub spare : (other : Child) → r.second ≡ Some other → 0 < length s
     unfolding one_or_two needed
-    spare other e = omega (arith, v.enough (subst (λ (o : Option Child). 2 ≤ length (one_or_two one o)) (sym e) (omega arith)))
+    spare other e = omega (arith, v.enough (subst (λ (o : Option Child). 2 ≤ length (one_or_two r.first o)) (sym e) (omega arith)))
 
-    module _ (height : ℕ) (e : height ≡ suc z.level) where
-      pub crown_one : Lawful K → Root K z.level z.memory z.top → two ≡ None → Crowned K z m s (record { root = one.block; height = height })
+    risen_as : (o : Option Child) → r.second ≡ o → Rises K z [] m s (record { first = r.first; second = o })
+    risen_as o e = subst (λ (q : Option Child). Rises K z [] m s (record { first = r.first; second = q })) e v
+
+    module _ (height : ℕ) (e : height ≡ suc z.level) (lw : Lawful K) where
+      pub crown_one : Root K z.level z.memory z.top → r.second ≡ None → Crowned K z m s (record { root = r.first.block; height = height })
       unfolding one_or_two
-      crown_one lw w n = record {
+      crown_one w n = let u = risen_as None n in record {
         level = z.level;
         height = e;
-        grown = grown_one K z.memory z.stock z.level z.top z.goal m.block (uses s) lw u.grows.level u.grows.block one w u.grows.growing;
+        grown = grown_one K z.memory z.stock z.level z.top z.goal m.block (uses s) lw u.grows.level u.grows.block r.first w u.grows.growing;
         stocked = v.stocked;
       }
-        where
-          u : Rises K z [] m s one None
-          u = subst (Rises K z [] m s one) n v
 
-      pub crown_two : Lawful K → (k : ℕ) (other : Child) → two ≡ Some other → (d : ℕ) (m' : Memory) (s' : Reserve) → Above K k (one ∷ (other ∷ [])) m s d m' s' → Crowned K z m' s' (record { root = d; height = height + 1 })
+      pub crown_two : (k : ℕ) (other : Child) → r.second ≡ Some other → (d : ℕ) (m' : Memory) (s' : List ℕ) → Filled K.children k (r.first ∷ (other ∷ [])) m s d m' s' → Crowned K z m' s' (record { root = d; height = height + 1 })
       unfolding one_or_two
-      crown_two lw k other q d m' s' p = record {
+      crown_two k other q d m' s' p = let u = risen_as (Some other) q in record {
         level = suc z.level;
         height = omega (arith, e);
-        grown = grown_two K z.memory z.stock z.level z.top z.goal m.block (uses s) u.grows.level u.grows.block (one ∷ (other ∷ [])) d m'.block (uses s') u.grows.growing (record {
+        grown = grown_two K z.memory z.stock z.level z.top z.goal m.block (uses s) u.grows.level u.grows.block (r.first ∷ (other ∷ [])) d m'.block (uses s') u.grows.growing (record {
           several = omega arith;
           few = omega (arith, lw.node_room);
           reads = p.reads;
@@ -63,6 +64,3 @@ module _ {E : Type 0} (K : Layout E) where
         });
         stocked = p.stocked;
       }
-        where
-          u : Rises K z [] m s one (Some other)
-          u = subst (Rises K z [] m s one) q v

@@ -5,7 +5,6 @@ use Rattle.std.proofs.lemmas.Bool.{eq-eqb, ne_eqb, ltb-true, ltb-false, cond_bot
 use Rattle.std.specs.List.{insert}
 use Rattle.page.specs.declared.child.Child.{Child}
 use Rattle.page.specs.Layout.{Layout, Lawful, entry_of_leaf}
-use Rattle.store.specs.declared.reserve.Reserve.{Reserve}
 use Rattle.store.specs.Memory.{Memory, Stored}
 use Rattle.store.specs.Steps.{Mem, Step, Ran, hit, held}
 use Rattle.store.specs.Stocked.{Stocked}
@@ -17,10 +16,12 @@ use Rattle.tree.specs.declared.top.Tree.{Tree}
 use Rattle.tree.specs.Tree.{contents, uses as treeUses, Sound, Root, blocks, Kept}
 use Rattle.tree.specs.Tall.{tall_contents, tall_uses, Tall}
 use Rattle.tree.specs.Trees.{Lies}
-use Rattle.tree.specs.Paths.{Branch, before, behind}
+use Rattle.tree.specs.declared.path.Branch.{Branch}
+use Rattle.tree.specs.Paths.{before, behind}
 use Rattle.tree.specs.Down.{Down}
 use Rattle.tree.specs.Leaves.{Begun}
-use Rattle.tree.specs.Climb.{one_or_two, branches, Start}
+use Rattle.tree.specs.Climb.{one_or_two, Start}
+use Rattle.tree.specs.declared.risen.Risen.{Risen}
 use Rattle.tree.specs.Growing.{Growing}
 use Rattle.tree.specs.Pages.{Reading}
 use Rattle.tree.proofs.Bounds.{most}
@@ -30,22 +31,21 @@ use Rattle.tree.proofs.Paths.{seen}
 use Rattle.tree.proofs.Places.{inserted as inserted_below}
 use Rattle.seek.specs.Descent.{nodes_full, full_run}
 use Rattle.tree.proofs.Low.{blocks_low}
-use Rattle.seek.proofs.Readings.{reading_left}
+use Rattle.seek.proofs.Readings.{reading_left, reading_ran}
 use Rattle.grow.specs.Asks.{insert_asks}
 use Rattle.grow.specs.Settle.{lower, upper, Settled}
 use Rattle.grow.specs.Rises.{Spent, needed, Rises}
 use Rattle.grow.specs.Crown.{Crowned}
 use Rattle.grow.specs.Inserted.{blocks_needed, Inserted}
-use Rattle.grow.proofs.Settling.{reading_ran}
 
 -- the blocks got after a descent
-pub record Stock (k : ℕ) (n : ℕ) (m : Memory) (s : Reserve) (m' : Memory) : Type 0 where
+pub record Stock (k : ℕ) (n : ℕ) (m : Memory) (s : List ℕ) (m' : Memory) : Type 0 where
   pub ran : Ran k (λ c. 0) (uses s) m m'
   pub stocked : Stocked (uses s) m'.block
-  pub all : s.count ≡ n
+  pub all : length s ≡ n
 
-pub stock : (k n : ℕ) (m m₁ m₂ : Memory) (s : Reserve) → Reading k m m₁ → Reserved n m₁ s m₂ → Stock (k + n) n m s m₂
-stock k n m m₁ m₂ s r v = record { ran = ran_then k n _ _ _ m m₁ m₂ (reading_ran k (λ c. 0) m m₁ r) v.ran; stocked = v.stocked; all = v.all }
+pub stock : (k n : ℕ) (m m₁ m₂ : Memory) (s : List ℕ) → Reading k m m₁ → Reserved n m₁ s m₂ → Stock (k + n) n m s m₂
+stock k n m m₁ m₂ s r v = record { ran = ran_then k n _ _ _ m m₁ m₂ (reading_ran k m m₁ r (λ c. 0)) v.ran; stocked = v.stocked; all = v.all }
 
 -- or one was refused
 pub undone : (k n j : ℕ) (m m₁ m₂ : Memory) → k + 2 * n ≤ 2 * j → Reading k m m₁ → Undone n m₁ m₂ → Undone j m m₂
@@ -57,11 +57,6 @@ undone k n j m m₁ m₂ l r u = record {
   asked = omega (arith, u.asked, ap (λ (x : Memory). x.left) r.is);
   asks = omega (arith, u.asks, reading_left k m m₁ r);
 }
-
-pub length_branches : (bs ps : List ℕ) (d : ℕ) → length (branches bs ps d) ≡ d
-unfolding branches
-length_branches bs ps zero = refl
-length_branches bs ps (suc d) = omega (arith, length_branches bs ps d)
 
 module _ {E : Type 0} (K : Layout E) (f : Mem) where
   -- the run of full nodes, and what a climb through them takes
@@ -86,19 +81,19 @@ module _ {E : Type 0} (K : Layout E) (f : Mem) where
     }
   ]
 
-  module _ (b : ℕ) (ws : List Branch) (n full depth : ℕ) (en : n ≡ blocks_needed full depth) (ef : full ≡ full_run K f b ws) (ed : length ws ≡ depth) where
-    few_full : full ≤ depth + 1
-    few_full = subst (λ (k : ℕ). k ≤ depth + 1) (sym ef) (cond_both (eqb (length (K.items (f b))) K.leaf_cap) (nodes_full K f ws + 1) 0 (λ k. k ≤ depth + 1) (λ q. omega (arith, (run ws).short)) (λ q. omega arith))
+  module _ (b : ℕ) (ws : List Branch) (n full : ℕ) (en : n ≡ blocks_needed full (length ws)) (ef : full ≡ full_run K f b ws) where
+    few_full : full ≤ length ws + 1
+    few_full = subst (λ (k : ℕ). k ≤ length ws + 1) (sym ef) (cond_both (eqb (length (K.items (f b))) K.leaf_cap) (nodes_full K f ws + 1) 0 (λ k. k ≤ length ws + 1) (λ q. omega (arith, (run ws).short)) (λ q. omega arith))
 
-    pub few_blocks : n ≤ depth + 2
-    few_blocks = subst (λ (k : ℕ). k ≤ depth + 2) (sym en) (cond_both (ltb depth full) (full + 1) full (λ k. k ≤ depth + 2) (λ q. omega (arith, few_full)) (λ q. omega (arith, few_full)))
+    pub few_blocks : n ≤ length ws + 2
+    few_blocks = subst (λ (k : ℕ). k ≤ length ws + 2) (sym en) (cond_both (ltb (length ws) full) (full + 1) full (λ k. k ≤ length ws + 2) (λ q. omega (arith, few_full)) (λ q. omega (arith, few_full)))
 
     pub leaf_blocks : length (K.items (f b)) ≡ K.leaf_cap → 1 + needed K f ws ≤ n
     leaf_blocks e =
         let q : full ≡ nodes_full K f ws + 1 = ef ∙ rw (eq-eqb (length (K.items (f b))) K.leaf_cap e) in
-        subst (λ (k : ℕ). 1 + needed K f ws ≤ k) (sym en) (cond_both (ltb depth full) (full + 1) full (λ k. 1 + needed K f ws ≤ k)
-        (λ t. omega (arith, (run ws).short, (run ws).whole (let z : nodes_full K f ws ≡ length ws = omega (arith, (run ws).short, ltb-true depth full t) in z)))
-        (λ t. omega (arith, (run ws).part (let z : nodes_full K f ws < length ws = omega (arith, ltb-false depth full t) in z))))
+        subst (λ (k : ℕ). 1 + needed K f ws ≤ k) (sym en) (cond_both (ltb (length ws) full) (full + 1) full (λ k. 1 + needed K f ws ≤ k)
+        (λ t. omega (arith, (run ws).short, (run ws).whole (let z : nodes_full K f ws ≡ length ws = omega (arith, (run ws).short, ltb-true (length ws) full t) in z)))
+        (λ t. omega (arith, (run ws).part (let z : nodes_full K f ws < length ws = omega (arith, ltb-false (length ws) full t) in z))))
 
 -- a tree that has a root
 module _ {E : Type 0} (K : Layout E) where
@@ -176,7 +171,7 @@ module _ {E : Type 0} (K : Layout E) where
             ∙ ap₂ (λ (n : ℕ) (ys : List E). insert ys n x) (sym d.place) (sym (seen K f 0 b ws H t.root d.path).contents_seen);
       }
 
-      module _ (k n : ℕ) (s : Reserve) (m₂ : Memory) (st : Stock k n m s m₂) where
+      module _ (k n : ℕ) (s : List ℕ) (m₂ : Memory) (st : Stock k n m s m₂) where
         same_leaf : m₂.block b ≡ f b
         same_leaf = st.ran.step.leaves b (let l : 0 < held f b = omega (arith, stored_held f b leaf) in l)
 
@@ -210,15 +205,15 @@ module _ {E : Type 0} (K : Layout E) where
             (step_as _ _ (λ c. uses s c + hit b c) v m₂.block m₃.block (λ c. omega arith) (λ c. refl) p))
 
         module _ (full : length (K.items (f b)) ≡ K.leaf_cap → 1 + needed K f ws ≤ n) where
-          pub leaf_room : K.leaf_cap ≤ length (K.items (m₂.block b)) → 0 < s.count
+          pub leaf_room : K.leaf_cap ≤ length (K.items (m₂.block b)) → 0 < length s
           leaf_room l =
               let e : length (K.items (f b)) ≡ K.leaf_cap = omega (arith, leaf_few, ap (λ (ws : List ℕ). length (K.items ws)) same_leaf) in
               omega (arith, full e, st.all)
 
-          pub leaf_rises : K.leaf_cap ≤ 62 → Lawful K → (j : ℕ) (m₃ : Memory) (s₃ : Reserve) (one : Child) (two : Option Child)
-              → Settled K.items (entry_of_leaf K) K.leaf_cap j b (insert (K.items (m₂.block b)) a x) m₂ s one two m₃ s₃ → Rises K start ws m₃ s₃ one two
+          leaf_went : K.leaf_cap ≤ 62 → Lawful K → (j : ℕ) (m₃ : Memory) (s₃ : List ℕ) (one : Child) (two : Option Child)
+              → Settled K.items (entry_of_leaf K) K.leaf_cap j b (insert (K.items (m₂.block b)) a x) m₂ s (record { first = one; second = two }) m₃ s₃ → Rises K start ws m₃ s₃ (record { first = one; second = two })
           unfolding one_or_two
-          leaf_rises l lw j m₃ s₃ one None p = record {
+          leaf_went l lw j m₃ s₃ one None p = record {
             grows = record {
               level = 0;
               block = b;
@@ -235,7 +230,7 @@ module _ {E : Type 0} (K : Layout E) where
             enough = λ q. absurd (omega arith);
             small = small l;
           }
-          leaf_rises l lw j m₃ s₃ one (Some other) p = record {
+          leaf_went l lw j m₃ s₃ one (Some other) p = record {
             grows = record {
               level = 0;
               block = b;
@@ -259,12 +254,15 @@ module _ {E : Type 0} (K : Layout E) where
             small = small l;
           }
 
+          pub leaf_rises : K.leaf_cap ≤ 62 → Lawful K → (j : ℕ) (m₃ : Memory) (s₃ : List ℕ) (r : Risen) → Settled K.items (entry_of_leaf K) K.leaf_cap j b (insert (K.items (m₂.block b)) a x) m₂ s r m₃ s₃ → Rises K start ws m₃ s₃ r
+          leaf_rises l lw j m₃ s₃ r = leaf_went l lw j m₃ s₃ r.first r.second
+
     -- the end
-    module _ (m₅ : Memory) (s₅ : Reserve) (t' : Tree) (v : Crowned K start m₅ s₅ t') (k : ℕ) (sp : Spent k m m₅) where
-      pub rest_few : s₅.count ≤ m₅.many
+    module _ (m₅ : Memory) (s₅ : List ℕ) (t' : Tree) (v : Crowned K start m₅ s₅ t') (k : ℕ) (sp : Spent k m m₅) where
+      pub rest_few : length s₅ ≤ m₅.many
       rest_few = reserve_few s₅ m₅ v.stocked (omega (arith, sp.number, lies.number))
 
-      pub finished : (m₆ : Memory) → GivenAll m₅ s₅ m₆ → k + s₅.count ≤ insert_asks → Inserted K at x t m t' m₆
+      pub finished : (m₆ : Memory) → GivenAll m₅ s₅ m₆ → k + length s₅ ≤ insert_asks → Inserted K at x t m t' m₆
       finished m₆ ga l = record {
         ran = record {
           step = step_as _ _ _ _ f m₆.block (λ c. omega (arith, top.uses_is c)) (λ c. uses_when_tall t'.height v.level m₆.block t'.root c v.height ∙ kept.same_uses c)

@@ -1,7 +1,7 @@
 pub mod Settling
 pub mod Climbing
 pub mod Crowning
-pub mod Inserting
 pub mod Planting
+pub mod Inserting
 pub mod Course
 pub mod Lying

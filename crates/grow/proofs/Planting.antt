@@ -16,17 +16,13 @@ use Rattle.grow.specs.Asks.{plant_asks, insert_asks}
 use Rattle.grow.specs.Inserted.{Planted, Inserted}
 
 module _ {E : Type 0} (K : Layout E) where
-  pub planted : Lawful K → (read : List ℕ → List E) → ((ws : List ℕ) → K.items ws ≡ read ws) → (x : E) (b d : ℕ) (ys : List E) (m m₁ m₂ : Memory)
-      → Obtained m b m₁ → d ≡ b → ys ≡ x ∷ [] → Writing page_asks read d ys m₁ m₂ → Planted K x m (record { root = d; height = 1 }) m₂
+  pub planted : Lawful K → (x : E) (b d : ℕ) (ys : List E) (m m₁ m₂ : Memory) → Obtained m b m₁ → d ≡ b → ys ≡ x ∷ [] → Writing page_asks K.items d ys m₁ m₂ → Planted K x m (record { root = d; height = 1 }) m₂
   unfolding tall_contents tall_uses Tall contents uses
-  planted lw read law x b d ys m m₁ m₂ o q e w = record {
+  planted lw x b d ys m m₁ m₂ o q e w = let reads = wrote_reads K.items m₁.block m₂.block d ys w.wrote ∙ e in record {
     ran = ran_then 1 page_asks (λ c. 0) (hit d) (hit d) m m₁ m₂ (subst (λ (c : ℕ). Ran 1 (λ c. 0) (hit c) m m₁) (sym q) o.ran) w.ran;
     holds = reads;
-    stands = leaf_root K m₂.block d (x ∷ []) (stored_after read m₁.block m₂.block d d ys w.wrote (subst (Stored m₁.block) (sym q) o.stored)) reads (omega arith) (omega (arith, lw.leaf_room));
+    stands = leaf_root K m₂.block d (x ∷ []) (stored_after K.items m₁.block m₂.block d d ys w.wrote (subst (Stored m₁.block) (sym q) o.stored)) reads (omega arith) (omega (arith, lw.leaf_room));
   }
-    where
-      reads : K.items (m₂.block d) ≡ x ∷ []
-      reads = law (m₂.block d) ∙ wrote_reads read m₁.block m₂.block d ys w.wrote ∙ e
 
   nothing : (h : ℕ) (f : Mem) (b : ℕ) → h ≡ 0 → tall_contents K h f b ≡ []
   unfolding tall_contents

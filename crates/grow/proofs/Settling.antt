@@ -1,130 +1,77 @@
 -- A page goes to its block, or in two halves to it and to a block of the reserve.
-use Rattle.std.proofs.Common.{◌≡◌, ℕ, ◌+◌, ◌*◌, ◌/◌, ◌<◌, ◌≤◌, List, length, Some, None, Option, sym, refl, ap, ◌∙◌, subst, mul-le-mul_right, arith}
+use Rattle.std.proofs.Common.{◌≡◌, ℕ, ◌+◌, ◌<◌, ◌≤◌, List, ◌∷◌, length, Some, None, Option, sym, refl, ap, ◌∙◌, subst, arith}
 use Rattle.page.specs.declared.child.Child.{Child}
-use Rattle.store.specs.declared.reserve.Reserve.{Reserve}
 use Rattle.store.specs.Memory.{Memory, Stored, asked}
 use Rattle.store.specs.Steps.{Mem, Ran, hit, held}
 use Rattle.store.specs.Stocked.{Stocked}
-use Rattle.store.specs.Reserve.{uses, Taken}
+use Rattle.store.specs.Reserve.{uses}
 use Rattle.store.proofs.Sums.{hit_same, hit_other}
 use Rattle.store.proofs.Stepping.{at_other}
 use Rattle.store.proofs.Memories.{by_place}
 use Rattle.store.proofs.Running.{stored_held, ran_asked, ran_then, ran_as, ran_beside, ran_more}
 use Rattle.store.proofs.Stocking.{stocked_beside, stocked_part}
 use Rattle.tree.specs.Pages.{page_asks, Reading, Writing}
+use Rattle.tree.specs.declared.risen.Risen.{Risen}
 use Rattle.tree.proofs.Writing.{stored_after, wrote_reads}
+use Rattle.seek.proofs.Readings.{reading_ran}
 use Rattle.grow.specs.Asks.{settle_asks}
-use Rattle.grow.specs.Settle.{lower, upper, Parted, InOne, InTwo, Settled}
-
--- reading is a run that owns nothing
-pub reading_ran : (k : ℕ) (u : ℕ → ℕ) (m m' : Memory) → Reading k m m' → Ran k u u m m'
-reading_ran k u m m' r = subst (λ (x : Memory). Ran k u u m x) (sym r.is) (ran_more r.times u u m (asked r.times m) (ran_asked r.times u m) k r.few)
+use Rattle.grow.specs.Settle.{lower, upper, Parted, Filled, InOne, InTwo, Settled}
 
 -- a block that is held and in no reserve stands beside the reserve
 pub beside_fits : (b : ℕ) (u : ℕ → ℕ) (f : Mem) → Stored f b → u b ≡ 0 → Stocked u f → (c : ℕ) → hit b c + u c ≤ held f c
 beside_fits b u f s e t = by_place (λ c. hit b c + u c ≤ held f c) b (omega (arith, hit_same b, stored_held f b s)) (λ c n. omega (arith, hit_other b c n, t.fits c))
 
-module _ {X : Type 0} (read read' : List ℕ → List X) (same : (ws : List ℕ) → read' ws ≡ read ws) where
-  pub parted_as : (k b : ℕ) (xs : List X) (m : Memory) (s : Reserve) (d : ℕ) (m' : Memory) (s' : Reserve) → Parted read k b xs m s d m' s' → Parted read' k b xs m s d m' s'
-  parted_as k b xs m s d m' s' p = record {
-    first = same (m'.block b) ∙ p.first;
-    second = same (m'.block d) ∙ p.second;
-    there = p.there;
-    there' = p.there';
-    ran = p.ran;
-    stocked = p.stocked;
-    fewer = p.fewer;
-  }
-
-  -- one page
-  module _ (entry : ℕ → List X → Child) (cap b : ℕ) (xs : List X) (m m' : Memory) (s : Reserve) (t : Stored m.block b) (k : Stocked (uses s) m.block) (z : uses s b ≡ 0) (w : Writing page_asks read b xs m m') where
-    pub in_one : (s' : Reserve) (one : Child) → s' ≡ s → length xs ≤ cap → one ≡ entry b xs → InOne read' entry cap settle_asks b xs m s one m' s'
-    in_one s' one es l e = subst (λ (r : Reserve). InOne read' entry cap settle_asks b xs m s one m' r) (sym es) (record {
-      few = l;
-      is = e;
-      reads = same (m'.block b) ∙ wrote_reads read m.block m'.block b xs w.wrote;
-      there = stored_after read m.block m'.block b b xs w.wrote t;
-      ran = ran_beside settle_asks (hit b) (hit b) m m' (ran_more page_asks (hit b) (hit b) m m' w.ran settle_asks (omega arith)) (uses s);
-      stocked = stocked_beside (uses s) m.block (hit b) (hit b) m'.block w.ran.step (beside_fits b (uses s) m.block t z k) k;
-      same = refl;
-    })
-
-  -- what stands above two pages
-  module _ (entry : ℕ → List X → Child) (at_block : (d : ℕ) (ys : List X) → (entry d ys).block ≡ d) (cap b : ℕ) (xs : List X) (m m' : Memory) (s s' : Reserve) (one other : Child) (d : ℕ) (ys zs : List X) where
-    pub in_both : cap < length xs → Parted read settle_asks b xs m s d m' s' → one ≡ entry b ys → ys ≡ lower xs → other ≡ entry d zs → zs ≡ upper xs → InTwo read' entry cap settle_asks b xs m s one other m' s'
-    in_both l p e q e' q' =
-        let at-d : d ≡ other.block = sym (ap (λ (k : Child). k.block) e' ∙ at_block d zs) in
-        record {
-          full = l;
-          first_is = e ∙ ap (entry b) q;
-          second_is = e' ∙ ap (entry d) q' ∙ ap (λ (c : ℕ). entry c (upper xs)) at-d;
-          parted = subst (λ (c : ℕ). Parted read' settle_asks b xs m s c m' s') at-d (parted_as settle_asks b xs m s d m' s' p);
-        }
-
--- two pages
-module _ {X : Type 0} (read : List ℕ → List X) (b d : ℕ) (xs : List X) (m m₁ m₂ : Memory) (s s' : Reserve) (t : Stored m.block b) (k : Stocked (uses s) m.block) (z : uses s b ≡ 0) (tk : Taken s d s')
-    (w₁ : Writing page_asks read b (lower xs) m m₁) where
-  fits : (c : ℕ) → hit b c + uses s c ≤ held m.block c
-  fits = beside_fits b (uses s) m.block t z k
-
-  stocked₁ : Stocked (uses s) m₁.block
-  stocked₁ = stocked_beside (uses s) m.block (hit b) (hit b) m₁.block w₁.ran.step fits k
-
-  pub there₁ : Stored m₁.block d
-  there₁ = stocked₁.stored d tk.was
-
-  apart : b ≡ d → ⊥
-  apart e = omega (arith, z, tk.was, ap (uses s) e)
-
-  pub in_two : Writing page_asks read d (upper xs) m₁ m₂ → Parted read settle_asks b xs m s d m₂ s'
-  in_two w₂ = record {
-    first = ap (λ (f : Mem). read (f b)) w₂.wrote.is ∙ ap read (at_other d w₂.wrote.words m₁.block b apart) ∙ wrote_reads read m.block m₁.block b (lower xs) w₁.wrote;
-    second = wrote_reads read m₁.block m₂.block d (upper xs) w₂.wrote;
-    there = stored_after read m₁.block m₂.block d b (upper xs) w₂.wrote (stored_after read m.block m₁.block b b (lower xs) w₁.wrote t);
-    there' = stored_after read m₁.block m₂.block d d (upper xs) w₂.wrote there₁;
-    ran = ran_as settle_asks _ _ m m₂
-        (ran_then page_asks page_asks _ _ _ m m₁ m₂ (ran_beside page_asks (hit b) (hit b) m m₁ w₁.ran (λ c. hit d c + uses s' c))
-        (ran_as page_asks _ _ m₁ m₂ (ran_beside page_asks (hit d) (hit d) m₁ m₂ w₂.ran (λ c. hit b c + uses s' c)) _ (λ c. hit d c + (hit b c + uses s' c)) (λ c. omega arith) (λ c. refl)))
-        _ _ (λ c. omega (arith, tk.used c)) (λ c. omega arith);
-    stocked = stocked_beside (uses s') m₁.block (hit d) (hit d) m₂.block w₂.ran.step (λ c. omega (arith, tk.used c, stocked₁.fits c))
-        (stocked_part (uses s) m₁.block (uses s') (λ c. omega (arith, tk.used c)) stocked₁);
-    fewer = tk.fewer;
-  }
-
--- what fits into a block
-pub fit_page : (n cap w k : ℕ) → n ≤ cap → cap * w ≤ k → n * w ≤ k
-fit_page n cap w k l h = omega (arith, mul-le-mul_right w l)
-
-pub fit_half : (n cap w k : ℕ) → n ≤ cap + 1 → 2 ≤ cap → cap * w ≤ k → (n + 1) / 2 * w ≤ k
-fit_half n cap w k l r h = fit_page ((n + 1) / 2) cap w k (omega arith) h
-
--- the two halves as the code has them
-pub split_two : {X : Type 0} (read : List ℕ → List X) (b d : ℕ) (xs : List X) (m m₁ m₂ : Memory) (s s' : Reserve) → Stored m.block b → Stocked (uses s) m.block → uses s b ≡ 0
-    → (e : ℕ) → d ≡ e → Taken s e s' → (ys zs : List X) → ys ≡ lower xs → zs ≡ upper xs → Writing page_asks read b ys m m₁ → Writing page_asks read d zs m₁ m₂ → Parted read settle_asks b xs m s d m₂ s'
-split_two read b d xs m m₁ m₂ s s' t k z e q tk ys zs p₁ p₂ w₁ w₂ =
-    in_two read b d xs m m₁ m₂ s s' t k z (subst (λ (x : ℕ). Taken s x s') (sym q) tk) (subst (λ (l : List _). Writing page_asks read b l m m₁) p₁ w₁) (subst (λ (l : List _). Writing page_asks read d l m₁ m₂) p₂ w₂)
-
--- after a page was read, of which the entries are given
-module _ {X : Type 0} (read : List ℕ → List X) (entry : ℕ → List X → Child) (cap j k b : ℕ) (xs ys : List X) (m m₁ m' : Memory) (s s' : Reserve) (one : Child) (two : Option Child) (r : Reading j m m₁) (e : xs ≡ ys) where
-  first_then : (u : ℕ → ℕ) → (v : ℕ → ℕ) → Ran k u v m₁ m' → Ran (j + k) u v m m'
-  first_then u v = ran_then j k u u v m m₁ m' (reading_ran j u m m₁ r)
-
-  pub settled_after : Settled read entry cap k b xs m₁ s one two m' s' → Settled read entry cap (j + k) b ys m s one two m' s'
-  settled_after = subst (λ (zs : List X). Settled read entry cap k b xs m₁ s one two m' s' → Settled read entry cap (j + k) b zs m s one two m' s') e (go two)
-    where
-      go : (o : Option Child) → Settled read entry cap k b xs m₁ s one o m' s' → Settled read entry cap (j + k) b xs m s one o m' s'
-      go None p = record { few = p.few; is = p.is; reads = p.reads; there = p.there; ran = first_then _ _ p.ran; stocked = p.stocked; same = p.same }
-      go (Some q) p = record {
-        full = p.full;
-        first_is = p.first_is;
-        second_is = p.second_is;
-        parted = record {
-          first = p.parted.first;
-          second = p.parted.second;
-          there = p.parted.there;
-          there' = p.parted.there';
-          ran = first_then _ _ p.parted.ran;
-          stocked = p.parted.stocked;
-          fewer = p.parted.fewer;
-        };
+-- what stands above two pages
+module _ {X : Type 0} (read : List ℕ → List X) (entry : ℕ → List X → Child) (cap b : ℕ) (xs : List X) (m m' : Memory) (s : List ℕ) where
+  pub in_both : ((d : ℕ) (ys : List X) → (entry d ys).block ≡ d) → (s' : List ℕ) (one other : Child) (d : ℕ) (ys zs : List X) → cap < length xs → Parted read settle_asks b xs m s d m' s'
+      → one ≡ entry b ys → ys ≡ lower xs → other ≡ entry d zs → zs ≡ upper xs → InTwo read entry cap settle_asks b xs m s one other m' s'
+  in_both at_block s' one other d ys zs l p e q e' q' =
+      let at-d : d ≡ other.block = sym (ap (λ (k : Child). k.block) e' ∙ at_block d zs) in
+      record {
+        full = l;
+        first_is = e ∙ ap (entry b) q;
+        second_is = e' ∙ ap (entry d) q' ∙ ap (λ (c : ℕ). entry c (upper xs)) at-d;
+        parted = subst (λ (c : ℕ). Parted read settle_asks b xs m s c m' s') at-d p;
       }
+
+-- a block is taken from the reserve
+module _ (d : ℕ) (s s' : List ℕ) (tk : s ≡ d ∷ s') where
+  pub used : (c : ℕ) → uses s c ≡ hit d c + uses s' c
+  unfolding uses
+  used c = ap (λ (r : List ℕ). uses r c) tk
+
+  pub taken_there : (f : Mem) → Stocked (uses s) f → Stored f d
+  taken_there f k = k.stored d (omega (arith, used d, hit_same d))
+
+  -- and written
+  pub filled : {X : Type 0} (read : List ℕ → List X) (xs : List X) (m m' : Memory) → Stocked (uses s) m.block → Writing page_asks read d xs m m' → Filled read page_asks xs m s d m' s'
+  filled read xs m m' k w = record {
+    reads = wrote_reads read m.block m'.block d xs w.wrote;
+    there = stored_after read m.block m'.block d d xs w.wrote (taken_there m.block k);
+    ran = ran_as page_asks _ _ m m' (ran_beside page_asks (hit d) (hit d) m m' w.ran (uses s')) (uses s) (λ c. hit d c + uses s' c) (λ c. omega (arith, used c)) (λ c. refl);
+    stocked = stocked_beside (uses s') m.block (hit d) (hit d) m'.block w.ran.step (λ c. omega (arith, used c, k.fits c)) (stocked_part (uses s) m.block (uses s') (λ c. omega (arith, used c)) k);
+    fewer = omega (arith, ap length tk);
+  }
+
+  -- two pages
+  module _ {X : Type 0} (read : List ℕ → List X) (b : ℕ) (ys : List X) (m m₁ : Memory) (t : Stored m.block b) (k : Stocked (uses s) m.block) (z : uses s b ≡ 0) (w₁ : Writing page_asks read b ys m m₁) where
+    stocked₁ : Stocked (uses s) m₁.block
+    stocked₁ = stocked_beside (uses s) m.block (hit b) (hit b) m₁.block w₁.ran.step (beside_fits b (uses s) m.block t z k) k
+
+    pub upper_there : Stored m₁.block d
+    upper_there = taken_there m₁.block stocked₁
+
+    apart : b ≡ d → ⊥
+    apart e = omega (arith, z, used d, hit_same d, ap (uses s) e)
+
+    pub in_two : (xs zs : List X) (m₂ : Memory) → ys ≡ lower xs → zs ≡ upper xs → Writing page_asks read d zs m₁ m₂ → Parted read settle_asks b xs m s d m₂ s'
+    in_two xs zs m₂ e e' w₂ = let p = filled read zs m₁ m₂ stocked₁ w₂ in record {
+      first = ap (λ (f : Mem). read (f b)) w₂.wrote.is ∙ ap read (at_other d w₂.wrote.words m₁.block b apart) ∙ wrote_reads read m.block m₁.block b ys w₁.wrote ∙ e;
+      second = p.reads ∙ e';
+      there = stored_after read m₁.block m₂.block d b zs w₂.wrote (stored_after read m.block m₁.block b b ys w₁.wrote t);
+      there' = p.there;
+      ran = ran_then page_asks page_asks _ _ _ m m₁ m₂ (ran_beside page_asks (hit b) (hit b) m m₁ w₁.ran (uses s))
+          (ran_as page_asks _ _ m₁ m₂ (ran_beside page_asks (uses s) (λ c. hit d c + uses s' c) m₁ m₂ p.ran (hit b)) _ (λ c. (hit b c + hit d c) + uses s' c) (λ c. omega arith) (λ c. omega arith));
+      stocked = p.stocked;
+      fewer = p.fewer;
+    }

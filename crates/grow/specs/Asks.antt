@@ -1,10 +1,10 @@
 -- How often the memory is asked, at most.
 -- Assumes nothing.
 use Rattle.std.specs.Prelude.{ℕ, ◌+◌, ◌*◌, ◌/◌}
-use Rattle.store.specs.Uses.{capacity}
+use Rattle.store.specs.Reserve.{capacity}
 use Rattle.tree.specs.Pages.{page_asks}
 use Rattle.seek.specs.Asks.{descend_asks}
-use Rattle.seek.specs.Sizes.{top_level}
+use Rattle.tree.specs.Sizes.{top_level}
 
 -- a page is written, or its two halves
 abbrev pub settle_asks : ℕ

@@ -1,26 +1,23 @@
 -- The climb of an insertion: one or two entries come up from a page, and go into the node above it.
 -- Assumes nothing.
-use Rattle.std.specs.Prelude.{◌≡◌, ℕ, suc, ◌+◌, ◌^◌, ◌<◌, ◌≤◌, Bool, cond, T, List, [], ◌∷◌, ◌++◌, length, take, drop, IfSome, Option, MatchOption, ◌==◌, slice_set}
+use Rattle.std.specs.Prelude.{◌≡◌, ℕ, suc, ◌+◌, ◌^◌, ◌<◌, ◌≤◌, Bool, cond, T, List, [], ◌∷◌, ◌++◌, length, take, drop, IfSome, ◌==◌}
 use Rattle.page.specs.declared.child.Child.{Child}
 use Rattle.page.specs.Layout.{Layout, counts}
-use Rattle.store.specs.declared.reserve.Reserve.{Reserve}
 use Rattle.store.specs.Memory.{Memory, Stored}
 use Rattle.store.specs.Steps.{Mem, held_in}
 use Rattle.store.specs.Stocked.{Stocked}
 use Rattle.store.specs.Reserve.{uses}
-use Rattle.tree.specs.Paths.{Branch}
-use Rattle.tree.specs.Climb.{one_or_two, Start, Grows}
+use Rattle.tree.specs.declared.path.Branch.{Branch}
+use Rattle.tree.specs.Climb.{risen_list, Start, Grows}
+use Rattle.tree.specs.declared.risen.Risen.{Risen}
 
 -- the entry at a place gives way to one or two
-abbrev pub placed : List Child → ℕ → Child → Option Child → List Child
-placed ks i one two = take i ks ++ (one_or_two one two ++ drop (suc i) ks)
-
-abbrev pub PutIn : List Child → List Child → ℕ → Child → Option Child → Type 0
-PutIn ks ls i one two = MatchOption two (ls ≡ slice_set ks i one) (λ other. ls ≡ take i ks ++ (one ∷ (other ∷ drop (i + 1) ks)))
+abbrev pub placed : List Child → ℕ → Risen → List Child
+placed ks i r = take i ks ++ (risen_list r ++ drop (suc i) ks)
 
 -- what can be written of what comes up
-abbrev pub Valid : (Child → Bool) → Child → Option Child → Type 0
-Valid valid one two = T (valid one) × IfSome two (λ other. T (valid other))
+abbrev pub Valid : (Child → Bool) → Risen → Type 0
+Valid valid r = T (valid r.first) × IfSome r.second (λ other. T (valid other))
 
 -- many counts along in at most k askings, and nothing is refused
 pub record Spent (k : ℕ) (m m' : Memory) : Type 0 where
@@ -35,27 +32,27 @@ module _ {E : Type 0} (K : Layout E) where
   needed f [] = 1
   needed f (w ∷ ws) = cond (length (K.children (f w.block)) == K.node_cap) (1 + needed f ws) 0
 
-  -- the node at block b can take what comes up, at a place
-  pub record Ready (valid : Child → Bool) (b place : ℕ) (m : Memory) (s : Reserve) (one : Child) (two : Option Child) : Type 0 where
-    pub there : Stored m.block b
-    pub few : length (K.children (m.block b)) ≤ K.node_cap
-    pub inside : place < length (K.children (m.block b))
-    pub can : Valid valid one two
-    pub small : counts (placed (K.children (m.block b)) place one two) < 2 ^ 64
-    pub room : K.node_cap < length (placed (K.children (m.block b)) place one two) → 0 < s.count
+  -- the node of a branch can take what comes up
+  pub record Ready (valid : Child → Bool) (w : Branch) (m : Memory) (s : List ℕ) (r : Risen) : Type 0 where
+    pub there : Stored m.block w.block
+    pub few : length (K.children (m.block w.block)) ≤ K.node_cap
+    pub inside : w.place < length (K.children (m.block w.block))
+    pub can : Valid valid r
+    pub small : counts (placed (K.children (m.block w.block)) w.place r) < 2 ^ 64
+    pub room : K.node_cap < length (placed (K.children (m.block w.block)) w.place r) → 0 < length s
     pub stocked : Stocked (uses s) m.block
-    pub beside : uses s b ≡ 0
+    pub beside : uses s w.block ≡ 0
 
   -- one or two came up to the nodes ws, and the reserve s has the blocks for the rest of the climb
-  pub record Rises (z : Start E) (ws : List Branch) (m : Memory) (s : Reserve) (one : Child) (two : Option Child) : Type 0 where
-    pub grows : Grows K z ws m.block (uses s) (one_or_two one two)
+  pub record Rises (z : Start E) (ws : List Branch) (m : Memory) (s : List ℕ) (r : Risen) : Type 0 where
+    pub grows : Grows K z ws m.block (uses s) (risen_list r)
     pub stocked : Stocked (uses s) m.block
-    pub enough : 2 ≤ length (one_or_two one two) → needed z.memory ws ≤ s.count
+    pub enough : 2 ≤ length (risen_list r) → needed z.memory ws ≤ length s
     pub small : length z.goal < 2 ^ 64
 
   -- for some tree, and for every tree
-  abbrev pub CanRise : List Branch → Memory → Reserve → Child → Option Child → Type 0
-  CanRise ws m s one two = (z : Start E) × Rises z ws m s one two
+  abbrev pub CanRise : List Branch → Memory → List ℕ → Risen → Type 0
+  CanRise ws m s r = (z : Start E) × Rises z ws m s r
 
-  abbrev pub Climbs : List Branch → Memory → Reserve → Child → Option Child → List Branch → Memory → Reserve → Child → Option Child → Type 0
-  Climbs ws m s one two ws' m' s' one' two' = (z : Start E) → Rises z ws m s one two → Rises z ws' m' s' one' two'
+  abbrev pub Climbs : List Branch → Memory → List ℕ → Risen → List Branch → Memory → List ℕ → Risen → Type 0
+  Climbs ws m s r ws' m' s' r' = (z : Start E) → Rises z ws m s r → Rises z ws' m' s' r'

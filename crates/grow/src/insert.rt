@@ -9,8 +9,10 @@ use crate::climb::climb;
 use crate::leaf::insert_leaf;
 use crate::root::new_root;
 use page::kind::Kind;
+use page::level::leaves::Leaves;
 use page::page::Page;
 use seek::descend::descend;
+use seek::target::Target;
 use store::Store;
 use store::fresh::Fresh;
 use store::gather::{NoRoom, give_all, reserve};
@@ -18,37 +20,32 @@ use tree::pages::store_page;
 use tree::top::Tree;
 
 // A leaf with one item: the tree.
-fn plant<K: Kind, W: Store<M>, M>(m: &mut M, x: K::Item) -> Result<Tree, NoRoom>
+fn plant<K: Kind, W: Store>(m: &mut W::Memory, x: K::Item) -> Result<Tree, NoRoom>
     requires asks { plant_asks ≤ (W.Store.memory m.old).left }
     requires room { (W.Store.memory m.old).many < (W.Store.memory m.old).top }
     ensures { MatchResult result (λ t. Planted K.Kind.layout x (W.Store.memory m.old) t (W.Store.memory m.new)) (λ _. Undone insert_undone (W.Store.memory m.old) (W.Store.memory m.new)) }
 {
-    match Fresh::obtain::<W, M>(m) {
-        Some(fresh) => {
-            let mut page = Page::new();
-            page.push(x);
-            let root = fresh.into_block();
-            store_page::<K::Leaf, W, M>(m, root, &page);
-            Ok(Tree { root, height: 1 })
-        }
-        None => Err(NoRoom {}),
-    }
+    let Some(fresh) = Fresh::obtain::<W>(m) else {
+        return Err(NoRoom);
+    };
+    let mut page = Page::new();
+    page.push(x);
+    let root = fresh.into_block();
+    store_page::<Leaves<K>, W>(m, root, &page);
+    Ok(Tree { root, height: 1 })
 }
 
 // How many blocks are got in advance: one for each page in a row that is full, and one for a new root if all are.
-fn blocks_for(full: u32, depth: u32) -> usize
+fn blocks_for(full: u32, depth: usize) -> usize
     ensures { result ≡ blocks_needed full depth }
 {
-    if full > depth {
-        full as usize + 1
-    } else {
-        full as usize
-    }
+    let full = full as usize;
+    if full > depth { full + 1 } else { full }
 }
 
 // Into a tree that has a root.
-fn insert_below<K: Kind, W: Store<M>, M>(
-    m: &mut M,
+fn insert_below<K: Kind, W: Store>(
+    m: &mut W::Memory,
     t: Tree,
     at: u64,
     x: K::Item,
@@ -60,27 +57,19 @@ fn insert_below<K: Kind, W: Store<M>, M>(
     requires room { (W.Store.memory m.old).many + most_blocks ≤ (W.Store.memory m.old).top }
     ensures { MatchResult result (λ t'. Inserted K.Kind.layout at x t (W.Store.memory m.old) t' (W.Store.memory m.new)) (λ _. Undone insert_undone (W.Store.memory m.old) (W.Store.memory m.new)) }
 {
-    let reached = descend::<K, W, M>(m, t, at, true);
-    let path = reached.path;
-    let mut stock = reserve::<W, M>(m, blocks_for(reached.full, path.depth))?;
-    let split = insert_leaf::<K, W, M>(m, reached.leaf, reached.at as usize, x, &mut stock);
-    let top = climb::<K, W, M>(
-        m,
-        &path.blocks,
-        &path.places,
-        path.depth,
-        split.0,
-        split.1,
-        &mut stock,
-    );
-    let tree = new_root::<K, W, M>(m, t.height, top.0, top.1, &mut stock);
-    give_all::<W, M>(stock, m);
+    let reached = descend::<K, W>(m, t, at, Target::Gap);
+    let blocks = blocks_for(reached.full, reached.path.len());
+    let mut stock = reserve::<W>(m, blocks)?;
+    let split = insert_leaf::<K, W>(m, reached.leaf, reached.at as usize, x, &mut stock);
+    let top = climb::<K, W>(m, reached.path, split, &mut stock);
+    let tree = new_root::<K, W>(m, t.height, top, &mut stock);
+    give_all::<W>(stock, m);
     Ok(tree)
 }
 
 // With `at` items before it. Where the memory refuses a block, all is as it was.
-pub fn insert<K: Kind, W: Store<M>, M>(
-    m: &mut M,
+pub fn insert<K: Kind, W: Store>(
+    m: &mut W::Memory,
     t: Tree,
     at: u64,
     x: K::Item,
@@ -92,8 +81,8 @@ pub fn insert<K: Kind, W: Store<M>, M>(
     ensures { MatchResult result (λ t'. Inserted K.Kind.layout at x t (W.Store.memory m.old) t' (W.Store.memory m.new)) (λ _. Undone insert_undone (W.Store.memory m.old) (W.Store.memory m.new)) }
 {
     if t.height == 0 {
-        plant::<K, W, M>(m, x)
+        plant::<K, W>(m, x)
     } else {
-        insert_below::<K, W, M>(m, t, at, x)
+        insert_below::<K, W>(m, t, at, x)
     }
 }

@@ -6,3 +6,4 @@ pub mod insert;
 pub mod leaf;
 pub mod root;
 pub mod settle;
+mod taken;

@@ -3,6 +3,7 @@ use Rattle.std.proofs.Common.{◌≡◌, ℕ, ◌+◌, ◌<◌, ◌≤◌, List,
 use Rattle.std.proofs.lemmas.List.Sums.{fold_push}
 use Rattle.page.specs.declared.child.Child.{Child}
 use Rattle.page.specs.Layout.{Layout, counts, summed, entry_of}
+use Rattle.page.specs.Readers.{counts_add}
 use Rattle.page.proofs.Lists.{take_more_get}
 
 pub counts_none : counts [] ≡ 0
@@ -14,9 +15,7 @@ unfolding counts
 counts_cons k ks = refl
 
 pub counts_append : (xs ys : List Child) → counts (xs ++ ys) ≡ counts xs + counts ys
-unfolding counts
-counts_append [] ys = omega arith
-counts_append (x ∷ xs) ys = omega (arith, counts_append xs ys)
+counts_append = counts_add
 
 -- before and from a place on
 pub counts_parts : (i : ℕ) (ks : List Child) → counts (take i ks) + counts (drop i ks) ≡ counts ks

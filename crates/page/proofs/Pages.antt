@@ -1,8 +1,7 @@
--- What is known of every page. Assumes nothing.
-use Rattle.std.proofs.Common.{◌≡◌, ℕ, List, length}
-use Rattle.page.specs.declared.page.Page.{Page}
-use Rattle.page.specs.View.{entries}
+-- How long a page is that is seen as a list. Assumes nothing.
+use Rattle.std.proofs.Common.{◌≡◌, ℕ, List, length, sym, ap, ◌∙◌}
+use Rattle.page.specs.Layout.{rows}
 use Rattle.page.proofs.Images.{length_rows}
 
-pub length_entries : {C X : Type 0} (w : ℕ) (dec : List ℕ → X) (p : Page C) → length (entries w dec p) ≡ p.len
-length_entries w dec p = length_rows w dec p.len p.words
+pub long : {X : Type 0} {xs : List X} (w : ℕ) (dec : List ℕ → X) (n : ℕ) (ws : List ℕ) → rows w dec n ws ≡ xs → length xs ≡ n
+long w dec n ws e = sym (ap length e) ∙ length_rows w dec n ws

@@ -1,6 +1,6 @@
+pub mod Balance
 pub mod Entries
 pub mod Kinds
 pub mod Layout
 pub mod Sizes
-pub mod View
 pub mod Readers

@@ -1,8 +1,7 @@
 // Which child of a node an item or a gap between items is under.
-ghost use Rattle.std.specs.Prelude.{◌≡◌, ℕ, ◌+◌, ◌<◌, ◌≤◌, take, slice_index_or};
+ghost use Rattle.std.specs.Prelude.{◌≡◌, ℕ, ◌+◌, ◌<◌, ◌≤◌, take, slice_index_or, length};
 ghost use Rattle.page.specs.declared.child.Child.{Child};
 ghost use Rattle.page.specs.Layout.{counts};
-ghost use Rattle.page.specs.View.{entries};
 
 use crate::kind::Kind;
 use crate::page::Page;
@@ -16,31 +15,29 @@ pub struct Place {
 
 // Where the item at `at` is.
 pub fn find<K: Kind>(page: &Page<K::Node>, at: u64) -> Place
-    requires { at < counts (entries K.Node.Codec.width K.Node.Codec.decode page.now) }
-    ensures child { result.child < page.now.len }
-    ensures before { counts (take result.child (entries K.Node.Codec.width K.Node.Codec.decode page.now)) + result.rest ≡ at }
-    ensures within { (d : Child) → result.rest < (slice_index_or (entries K.Node.Codec.width K.Node.Codec.decode page.now) result.child d).count }
+    requires { at < counts page.now }
+    ensures child { result.child < length page.now }
+    ensures before { counts (take result.child page.now) + result.rest ≡ at }
+    ensures within { (d : Child) → result.rest < (slice_index_or page.now result.child d).count }
 {
     let mut rest = at;
-    let mut i = 0;
-    while i < page.len() {
-        let count = page.get(i).count;
+    for child in 0..page.len() {
+        let count = page.get(child).count;
         if rest < count {
-            return Place { child: i, rest };
+            return Place { child, rest };
         }
         rest -= count;
-        i += 1;
     }
     unreachable()
 }
 
 // Where an item comes that is to have `at` items before it: the first child that can take it.
 pub fn find_gap<K: Kind>(page: &Page<K::Node>, at: u64) -> Place
-    requires some { 0 < page.now.len }
-    requires there { at ≤ counts (entries K.Node.Codec.width K.Node.Codec.decode page.now) }
-    ensures child { result.child < page.now.len }
-    ensures before { counts (take result.child (entries K.Node.Codec.width K.Node.Codec.decode page.now)) + result.rest ≡ at }
-    ensures within { (d : Child) → result.rest ≤ (slice_index_or (entries K.Node.Codec.width K.Node.Codec.decode page.now) result.child d).count }
+    requires some { 0 < length page.now }
+    requires there { at ≤ counts page.now }
+    ensures child { result.child < length page.now }
+    ensures before { counts (take result.child page.now) + result.rest ≡ at }
+    ensures within { (d : Child) → result.rest ≤ (slice_index_or page.now result.child d).count }
     ensures first { 0 < result.child → 0 < result.rest }
 {
     if at == 0 {

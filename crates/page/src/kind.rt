@@ -1,9 +1,8 @@
 // The kinds of trees: what stands in their leaves and nodes, and what a node keeps of what is under it.
-ghost use Rattle.std.specs.Prelude.{◌≡◌, ℕ, ◌*◌, ◌<◌, ◌≤◌, T, List, slice_index};
+ghost use Rattle.std.specs.Prelude.{◌≡◌, ℕ, ◌*◌, ◌<◌, ◌≤◌, T, List, slice_index, length};
 ghost use Rattle.page.specs.declared.child.Child.{Child};
 ghost use Rattle.page.specs.Layout.{Layout, Lawful, imaged};
 ghost use Rattle.page.specs.Sizes.{block_room};
-ghost use Rattle.page.specs.View.{entries};
 
 use crate::child::Child;
 use crate::codec::Codec;
@@ -33,8 +32,8 @@ pub trait Kind {
 
     // What is kept of the items of a leaf.
     fn leaf_summary(page: &Page<Self::Leaf>) -> u64
-        requires { 0 < page.now.len }
-        ensures { result ≡ layout.summary (entries Self.Leaf.Codec.width Self.Leaf.Codec.decode page.now) };
+        requires { 0 < length page.now }
+        ensures { result ≡ layout.summary page.now };
 
     ghost leaves: { (ws : List ℕ) → layout.items ws ≡ imaged Self.Leaf.Codec.width Self.Leaf.Codec.decode ws };
 

@@ -6,9 +6,9 @@ pub mod codec;
 pub mod entry;
 pub mod find;
 pub mod kind;
+pub mod level;
 pub mod page;
 pub mod sizes;
-pub mod summary;
 
 pub use child::Child;
 pub use codec::Codec;
@@ -16,4 +16,7 @@ pub use entry::Pair;
 pub use kind::Kind;
 pub use kind::row::Rows;
 pub use kind::table::Tables;
+pub use level::Level;
+pub use level::leaves::Leaves;
+pub use level::nodes::Nodes;
 pub use page::Page;

@@ -1,9 +1,11 @@
-// A page: up to 64 entries in order. C says how they lie in its words.
-ghost use Rattle.std.specs.Prelude.{◌≤◌};
+// A page: up to 64 entries in order, which clauses see as a list. C says how they lie in its words.
+ghost use Rattle.std.specs.Prelude.{◌≤◌, List};
+ghost use Rattle.page.specs.Layout.{rows};
 ghost use Rattle.page.specs.Sizes.{page_limit};
 
+use crate::codec::Codec;
 use crate::sizes::WORDS;
-use std::marker::PhantomData;
+use std::marker::{Model, PhantomData};
 
 mod balance;
 mod edits;
@@ -11,10 +13,18 @@ mod images;
 mod moves;
 mod splices;
 
+// Words and how many entries they hold: an array of C's items can't be a field here, as the size of a generic struct would be owed by every call.
 #[derive(Drop)]
-pub struct Page<C> {
+pub struct Page<C: Codec> {
     words: [u64; WORDS],
     len: usize,
     of: PhantomData<C>,
-    ghost fits: { len ≤ page_limit },
+}
+
+impl<C: Codec> Model for Page<C> {
+    ghost Value = { List C.Item };
+
+    ghost view = { λ p. rows C.width C.decode p.len p.words };
+
+    ghost invariant = { λ p. p.len ≤ page_limit };
 }

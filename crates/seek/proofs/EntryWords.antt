@@ -1,39 +1,15 @@
--- The words of an entry, read one after the other and written so.
-use Rattle.std.proofs.Common.{◌≡◌, ℕ, suc, ◌+◌, ◌*◌, ◌<◌, ◌≤◌, List, [], ◌∷◌, ◌++◌, length, get_or, take, drop, set, sym, ap, ◌∙◌, subst, mul-le-mul_right, suc-mul, mul_comm, arith, length-drop, length-set, rules}
+-- The words of an entry are written.
+use Rattle.std.proofs.Common.{◌≡◌, ℕ, suc, ◌+◌, ◌*◌, ◌<◌, ◌≤◌, List, ◌++◌, length, get_or, take, drop, set, sym, ap, ◌∙◌, subst, mul-le-mul_right, suc-mul, mul_comm, arith, length-drop, rules}
 use lib.Seq.{paste}
-use Rattle.std.proofs.lemmas.List.{get_or_default, get_or-drop, get_or-set_same, take-set, take-append-le, take_all, same_lists, places}
-use Rattle.std.proofs.lemmas.List.Edits.{paste_none, paste_more, length-paste}
+use Rattle.std.proofs.lemmas.List.{take-append-le, take_all, same_lists, places}
+use Rattle.std.proofs.lemmas.List.Edits.{length-paste}
 use Rattle.page.specs.Layout.{rows, imaged}
-use Rattle.page.proofs.Lists.{take_more_get}
 use Rattle.page.proofs.Images.{rows_set}
-use Rattle.store.specs.Memory.{Memory, Stored, wrote, written}
+use Rattle.store.specs.Memory.{Memory, Stored, wrote}
 use Rattle.store.specs.Steps.{Ran, hit}
-use Rattle.store.proofs.Memories.{wrote_none, written_wrote}
 use Rattle.store.proofs.Running.{ran_wrote, ran_more}
 use Rattle.tree.specs.Pages.{Writing}
-use Rattle.seek.proofs.Imaged.{first_word}
-
--- word j of those behind the first a
-pub more_words : (ws us vs : List ℕ) (a j x : ℕ) → j < length us → a + j < length ws → x ≡ get_or ws (a + j) 0 → vs ≡ set us j x → take j us ≡ take j (drop a ws) → take (j + 1) vs ≡ take (j + 1) (drop a ws)
-more_words ws us vs a j x l h e ev same =
-    let n : j < length vs = omega (arith, ap length ev, length-set us j x) in
-    let k : j < length (drop a ws) = omega (arith, length-drop a ws) in
-    take_more_get vs j x n (λ d. sym (ap (λ (zs : List ℕ). get_or zs j d) ev ∙ get_or-set_same us j x d l))
-    ∙ ap (λ (zs : List ℕ). zs ++ (x ∷ [])) (ap (take j) ev ∙ take-set us j x ∙ same)
-    ∙ sym (take_more_get (drop a ws) j x k (λ d. e ∙ sym (get_or-drop a ws j 0) ∙ get_or_default (drop a ws) j 0 d k))
-
--- words that are written to a block from word a on
-module _ (b a : ℕ) (ws : List ℕ) (m : Memory) where
-  pub pasted_none : m ≡ wrote 0 b (paste (m.block b) a ws 0) m
-  pasted_none = wrote_none b m ∙ ap (λ (vs : List ℕ). wrote 0 b vs m) (paste_none (m.block b) a ws)
-
-  pub pasted_more : (j : ℕ) (m' m'' : Memory) → a + j < length (m.block b) → j < length ws → m' ≡ wrote j b (paste (m.block b) a ws j) m → m'' ≡ written b (a + j) (get_or ws j 0) m'
-      → m'' ≡ wrote (j + 1) b (paste (m.block b) a ws (j + 1)) m
-  pasted_more j m' m'' l h e f =
-      let n : 1 + j ≡ j + 1 = omega arith in
-      let old : List ℕ = m.block b in
-      f ∙ ap (written b (a + j) (get_or ws j 0)) e ∙ written_wrote j b (a + j) (get_or ws j 0) (paste old a ws j) (paste old a ws (j + 1)) m (paste_more old a ws j 0 l h)
-      ∙ ap (λ (k : ℕ). wrote k b (paste old a ws (j + 1)) m) n
+use Rattle.tree.proofs.Imaging.{first_word}
 
 -- at the front
 pub take_pasted : (w : ℕ) (d s : List ℕ) → length s ≡ w → take w (paste d 0 s w) ≡ s

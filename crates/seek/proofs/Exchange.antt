@@ -7,7 +7,8 @@ use Rattle.store.specs.Steps.{Mem, hit, held, Same, Step}
 use Rattle.store.proofs.Sums.{hit_same}
 use Rattle.store.proofs.Stepping.{step_same}
 use Rattle.tree.specs.Tree.{total, flat, All, contents, uses, many, Sound, Root, contents_of, uses_of, ChildOk, ChildrenOk}
-use Rattle.tree.specs.Paths.{Branch, left, right, Path, before, behind, around}
+use Rattle.tree.specs.declared.path.Branch.{Branch}
+use Rattle.tree.specs.Paths.{left, right, Path, before, behind, around}
 use Rattle.tree.proofs.Each.{flat_append, total_append, All-++, All-left, All-right}
 use Rattle.tree.proofs.Frames.{KeptAll, frame_all}
 use Rattle.tree.proofs.Paths.{around_child, child, seen}

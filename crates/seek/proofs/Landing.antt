@@ -1,5 +1,5 @@
 -- At the leaf that a place is in.
-use Rattle.std.proofs.Common.{◌≡◌, ℕ, zero, suc, ◌+◌, ◌-◌, ◌<◌, ◌≤◌, Bool, false, List, ◌++◌, length, get_or, set, sym, refl, ap, ◌∙◌, subst, arith}
+use Rattle.std.proofs.Common.{◌≡◌, ℕ, zero, suc, ◌+◌, ◌-◌, ◌<◌, ◌≤◌, List, ◌++◌, length, get_or, set, sym, refl, ap, ◌∙◌, subst, arith}
 use Rattle.std.proofs.lemmas.List.{get_or_append_left, get_or-append-add, set-append_left, set-append_right}
 use Rattle.page.specs.Layout.{Layout}
 use Rattle.store.specs.Memory.{Memory, Stored}
@@ -11,8 +11,10 @@ use Rattle.tree.specs.Trees.{holds}
 use Rattle.tree.specs.Paths.{before, behind}
 use Rattle.tree.proofs.Paths.{seen}
 use Rattle.seek.specs.declared.reached.Reached.{Reached}
+use Rattle.seek.specs.declared.target.Target.{Target}
+use Rattle.seek.specs.declared.target.Target.TheVariants.{Item}
 use Rattle.seek.specs.Asks.{descend_asks}
-use Rattle.seek.specs.Descent.{more, nodes, Descended}
+use Rattle.seek.specs.Descent.{more, Descended}
 use Rattle.seek.proofs.Readings.{reading_blocks, reading_left, reading_stored}
 
 -- in the middle of three parts
@@ -51,7 +53,7 @@ module _ {E : Type 0} (K : Layout E) where
   root_tall zero f b l w = absurd (omega arith)
   root_tall (suc h) f b l w = subst (λ (x : ℕ). Root K x f b) (let e : suc h - 1 ≡ h = omega arith in e) w
 
-  module _ (m m' : Memory) (t : Tree) (p : ℕ) (gap : Bool) (r : Reached) (z : Descended K m t p gap r m') where
+  module _ (m m' : Memory) (t : Tree) (p : ℕ) (target : Target) (r : Reached) (z : Descended K m t p target r m') where
     abbrev f : Mem
     f = m.block
 
@@ -66,7 +68,7 @@ module _ {E : Type 0} (K : Layout E) where
     unfolding Sound
     leaf_few = omega (arith, z.down.sound.1, ap (λ (ws : List ℕ). length (K.items ws)) same_page)
 
-    pub leaf_inside : r.at < length (K.items (m'.block r.leaf)) + more gap
+    pub leaf_inside : r.at < length (K.items (m'.block r.leaf)) + more target
     unfolding contents
     leaf_inside = omega (arith, z.down.inside, ap (λ (ws : List ℕ). length (K.items ws)) same_page)
 
@@ -74,15 +76,15 @@ module _ {E : Type 0} (K : Layout E) where
     asks_of_leaf k l = omega (arith, reading_left _ m m' z.same)
 
     -- the tree's items round those of the leaf
-    pub leaf_holds : holds K f t ≡ before K f 0 (nodes r.path) ++ (K.items (f r.leaf) ++ behind K f 0 (nodes r.path))
+    pub leaf_holds : holds K f t ≡ before K f 0 r.path ++ (K.items (f r.leaf) ++ behind K f 0 r.path)
     unfolding contents
-    leaf_holds = contents_when_tall t.height f t.root (omega (arith, z.deep)) ∙ (seen K f 0 r.leaf (nodes r.path) (t.height - 1) t.root z.down.path).contents_seen
+    leaf_holds = contents_when_tall t.height f t.root (omega (arith, z.deep)) ∙ (seen K f 0 r.leaf r.path (t.height - 1) t.root z.down.path).contents_seen
 
-  module _ (m m' : Memory) (t : Tree) (p : ℕ) (r : Reached) (z : Descended K m t p false r m') where
+  module _ (m m' : Memory) (t : Tree) (p : ℕ) (r : Reached) (z : Descended K m t p Item r m') where
     pub leaf_item : (d : E) → get_or (K.items (m'.block r.leaf)) r.at d ≡ get_or (holds K m.block t) p d
     leaf_item d =
-        let ps = nodes r.path in
-        let s = same_page m m' t p false r z in
-        let l : r.at < length (K.items (m.block r.leaf)) = omega (arith, leaf_inside m m' t p false r z, ap (λ (ws : List ℕ). length (K.items ws)) s) in
+        let ps = r.path in
+        let s = same_page m m' t p Item r z in
+        let l : r.at < length (K.items (m.block r.leaf)) = omega (arith, leaf_inside m m' t p Item r z, ap (λ (ws : List ℕ). length (K.items ws)) s) in
         ap (λ (ws : List ℕ). get_or (K.items ws) r.at d) s
-        ∙ sym (rw (leaf_holds m m' t p false r z, z.down.place) (get_or_middle (before K m.block 0 ps) (K.items (m.block r.leaf)) (behind K m.block 0 ps) r.at d l))
+        ∙ sym (rw (leaf_holds m m' t p Item r z, z.down.place) (get_or_middle (before K m.block 0 ps) (K.items (m.block r.leaf)) (behind K m.block 0 ps) r.at d l))

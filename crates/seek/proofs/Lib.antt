@@ -1,11 +1,10 @@
 pub mod Readings
 pub mod Counted
-pub mod Imaged
-pub mod EntryWords
 pub mod Tops
-pub mod Branches
-pub mod Going
+pub mod Runs
 pub mod Landing
+pub mod Going
+pub mod EntryWords
 pub mod Exchange
 pub mod Updating
 pub mod Standing

@@ -12,6 +12,12 @@ reading_none k m = record { times = 0; few = omega arith; is = asked_none m }
 pub reading_asked : (k n : ℕ) (m m' : Memory) → n ≤ k → m' ≡ asked n m → Reading k m m'
 reading_asked k n m m' l e = record { times = n; few = l; is = e }
 
+-- once more
+pub asked_next : (k : ℕ) (m m' m'' : Memory) → m' ≡ asked k m → m'' ≡ asked 1 m' → m'' ≡ asked (k + 1) m
+asked_next k m m' m'' e e' =
+    let n : 1 + k ≡ k + 1 = omega arith in
+    e' ∙ ap (asked 1) e ∙ asked_then 1 k m ∙ ap (λ (j : ℕ). asked j m) n
+
 pub reading_then : (j k n : ℕ) (m m' m'' : Memory) → j + k ≤ n → Reading j m m' → Reading k m' m'' → Reading n m m''
 reading_then j k n m m' m'' l p q = record {
   times = q.times + p.times;

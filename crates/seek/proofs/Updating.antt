@@ -1,5 +1,5 @@
 -- An item is set: the path down, and its words written.
-use Rattle.std.proofs.Common.{◌≡◌, ℕ, suc, ◌+◌, ◌-◌, ◌<◌, ◌≤◌, false, List, ◌∷◌, ◌++◌, length, get_or, take, drop, set, sym, ap, ◌∙◌, subst, append_assoc, arith, length-set}
+use Rattle.std.proofs.Common.{◌≡◌, ℕ, suc, ◌+◌, ◌-◌, ◌<◌, ◌≤◌, List, ◌∷◌, ◌++◌, length, get_or, take, drop, set, sym, ap, ◌∙◌, subst, append_assoc, arith, length-set}
 use lib.Seq.{split_at, set_split}
 use Rattle.std.proofs.lemmas.List.{get_or_default}
 use Rattle.page.specs.Layout.{Layout}
@@ -9,13 +9,15 @@ use Rattle.store.proofs.Running.{ran_then, ran_beside, ran_as}
 use Rattle.tree.specs.declared.top.Tree.{Tree}
 use Rattle.tree.specs.Tree.{uses, Root}
 use Rattle.tree.specs.Pages.{Writing}
-use Rattle.tree.specs.Paths.{Branch, Path, before, behind, around}
+use Rattle.tree.specs.declared.path.Branch.{Branch}
+use Rattle.tree.specs.Paths.{Path, before, behind, around}
 use Rattle.tree.specs.Trees.{holds, owns, Lies}
 use Rattle.tree.proofs.Paths.{seen}
 use Rattle.tree.proofs.Writing.{stored_after, wrote_reads}
 use Rattle.seek.specs.declared.reached.Reached.{Reached}
+use Rattle.seek.specs.declared.target.Target.TheVariants.{Item}
 use Rattle.seek.specs.Asks.{descend_asks, item_asks, set_asks}
-use Rattle.seek.specs.Descent.{nodes, Descended}
+use Rattle.seek.specs.Descent.{Descended}
 use Rattle.seek.specs.Items.{Updated}
 use Rattle.seek.proofs.Exchange.{Swapped, swapped, swapped_root}
 use Rattle.seek.proofs.Landing.{set_middle, contents_when_tall, uses_when_tall, tall_root, root_tall, leaf_stored, leaf_inside, leaf_holds, leaf_item}
@@ -30,7 +32,7 @@ alike_set S xs i x y l e k us vs =
     simp append_assoc (simp append_assoc at (k (us ++ take i xs) (drop (suc i) xs ++ vs))) in
     ap (λ zs. S (us ++ (zs ++ vs))) (set_split xs i x l) ∙ n ∙ sym (ap (λ zs. S (us ++ (zs ++ vs))) t)
 
-module _ {E : Type 0} (K : Layout E) (m m₁ m₂ : Memory) (t : Tree) (i : ℕ) (x : E) (r : Reached) (lies : Lies K m t) (z : Descended K m t i false r m₁)
+module _ {E : Type 0} (K : Layout E) (m m₁ m₂ : Memory) (t : Tree) (i : ℕ) (x : E) (r : Reached) (lies : Lies K m t) (z : Descended K m t i Item r m₁)
     (w : Writing item_asks K.items r.leaf (set (K.items (m₁.block r.leaf)) r.at x) m₁ m₂)
     (alike : (us vs : List E) → K.summary (us ++ (x ∷ vs)) ≡ K.summary (us ++ (get_or (holds K m.block t) i x ∷ vs))) where
   abbrev f : Mem
@@ -43,7 +45,7 @@ module _ {E : Type 0} (K : Layout E) (m m₁ m₂ : Memory) (t : Tree) (i : ℕ)
   b = r.leaf
 
   abbrev ws : List Branch
-  ws = nodes r.path
+  ws = r.path
 
   abbrev H : ℕ
   H = t.height - 1
@@ -58,7 +60,7 @@ module _ {E : Type 0} (K : Layout E) (m m₁ m₂ : Memory) (t : Tree) (i : ℕ)
   same_then = ap (λ (k : Mem). k b) (reading_blocks _ m m₁ z.same)
 
   inside : r.at < length (K.items (f b))
-  inside = omega (arith, leaf_inside K m m₁ t i false r z, ap (λ (k : List ℕ). length (K.items k)) same_then)
+  inside = omega (arith, leaf_inside K m m₁ t i Item r z, ap (λ (k : List ℕ). length (K.items k)) same_then)
 
   put_is : ys ≡ set (K.items (f b)) r.at x
   put_is = ap (λ (k : List ℕ). set (K.items k) r.at x) same_then
@@ -84,7 +86,7 @@ module _ {E : Type 0} (K : Layout E) (m m₁ m₂ : Memory) (t : Tree) (i : ℕ)
   writes = subst (λ (k : Mem). Step (hit b) (hit b) k g) (reading_blocks _ m m₁ z.same) w.ran.step
 
   there : Stored g b
-  there = stored_after K.items m₁.block g b b ys w.wrote (leaf_stored K m m₁ t i false r z)
+  there = stored_after K.items m₁.block g b b ys w.wrote (leaf_stored K m m₁ t i Item r z)
 
   reads : K.items (g b) ≡ ys
   reads = wrote_reads K.items m₁.block g b ys w.wrote
@@ -111,7 +113,7 @@ module _ {E : Type 0} (K : Layout E) (m m₁ m₂ : Memory) (t : Tree) (i : ℕ)
   is : holds K g t ≡ set (holds K f t) i x
   is =
       contents_when_tall K t.height g t.root tall ∙ sw.contents_is ∙ ap (λ (v : List E). before K f 0 ws ++ (v ++ behind K f 0 ws)) put_is
-      ∙ sym (rw (leaf_holds K m m₁ t i false r z, z.down.place) (set_middle (before K f 0 ws) (K.items (f b)) (behind K f 0 ws) r.at x inside))
+      ∙ sym (rw (leaf_holds K m m₁ t i Item r z, z.down.place) (set_middle (before K f 0 ws) (K.items (f b)) (behind K f 0 ws) r.at x inside))
 
   pub updated : Updated K t i x m m₂
   updated = record {

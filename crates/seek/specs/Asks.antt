@@ -3,7 +3,7 @@
 use Rattle.std.specs.Prelude.{ℕ, ◌+◌, ◌*◌}
 use Rattle.page.specs.Sizes.{width_limit}
 use Rattle.tree.specs.Pages.{page_asks}
-use Rattle.seek.specs.Sizes.{top_level}
+use Rattle.tree.specs.Sizes.{top_level}
 
 -- how many children the root has, and their counts
 abbrev pub length_asks : ℕ

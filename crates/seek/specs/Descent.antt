@@ -1,25 +1,22 @@
 -- The path down to a place in a tree.
 -- Assumes nothing.
-use Rattle.std.specs.Prelude.{◌≡◌, ℕ, ◌+◌, ◌-◌, Bool, cond, List, [], ◌∷◌, length, ◌==◌}
+use Rattle.std.specs.Prelude.{◌≡◌, ℕ, ◌+◌, ◌-◌, cond, List, [], ◌∷◌, length, ◌==◌}
 use Rattle.page.specs.Layout.{Layout}
 use Rattle.store.specs.Memory.{Memory}
 use Rattle.store.specs.Steps.{Mem}
 use Rattle.tree.specs.declared.top.Tree.{Tree}
-use Rattle.tree.specs.Climb.{branches}
 use Rattle.tree.specs.Down.{Down}
 use Rattle.tree.specs.Pages.{Reading}
-use Rattle.tree.specs.Paths.{Branch}
-use Rattle.seek.specs.declared.path.Path.{Path}
+use Rattle.tree.specs.declared.path.Branch.{Branch}
 use Rattle.seek.specs.declared.reached.Reached.{Reached}
+use Rattle.seek.specs.declared.target.Target.{Target}
+use Rattle.seek.specs.declared.target.Target.TheVariants.{Item, Gap}
 use Rattle.seek.specs.Asks.{descend_asks}
 
--- with a gap the end is a place too
-abbrev pub more : Bool → ℕ
-more gap = cond gap 1 0
-
--- the nodes of a path, nearest first
-abbrev pub nodes : Path → List Branch
-nodes p = branches p.blocks p.places p.depth
+-- for a gap the end is a place too
+abbrev pub more : Target → ℕ
+more Item = 0
+more Gap = 1
 
 -- after a run of full pages comes one with n entries of at most so many: it is one more, or the run ends
 abbrev pub run_after : ℕ → ℕ → ℕ → ℕ
@@ -35,8 +32,8 @@ module _ {E : Type 0} (K : Layout E) where
   full_run f b ws = run_after (nodes_full f ws) (length (K.items (f b))) K.leaf_cap
 
   -- the place p of the tree, or the gap before it, is under the path that was taken, and the memory was only read
-  pub record Descended (m : Memory) (t : Tree) (p : ℕ) (gap : Bool) (r : Reached) (m' : Memory) : Type 0 where
-    pub down : Down K m.block (t.height - 1) t.root p (more gap) 0 r.leaf (nodes r.path) r.at
-    pub deep : r.path.depth + 1 ≡ t.height
-    pub full : r.full ≡ full_run m.block r.leaf (nodes r.path)
+  pub record Descended (m : Memory) (t : Tree) (p : ℕ) (target : Target) (r : Reached) (m' : Memory) : Type 0 where
+    pub down : Down K m.block (t.height - 1) t.root p (more target) 0 r.leaf r.path r.at
+    pub deep : length r.path + 1 ≡ t.height
+    pub full : r.full ≡ full_run m.block r.leaf r.path
     pub same : Reading descend_asks m m'

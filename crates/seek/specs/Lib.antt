@@ -1,6 +1,4 @@
-pub mod Sizes
-pub mod Words
 pub mod Asks
 pub mod Descent
-pub mod Items
 pub mod Chosen
+pub mod Items

@@ -3,14 +3,15 @@ ghost use Rattle.std.specs.Prelude.{◌≡◌, ◌+◌, ◌<◌, ◌≤◌, leng
 ghost use Rattle.tree.specs.Trees.{holds, Lies};
 ghost use Rattle.seek.specs.Asks.{descend_asks};
 ghost use Rattle.seek.specs.Descent.{more, run_after, Descended};
-ghost use Rattle.seek.specs.Sizes.{longest};
+ghost use Rattle.tree.specs.Sizes.{longest};
 
 use crate::choose::choose_child;
-use crate::path::Path;
 use crate::reached::Reached;
-use crate::words::number_of_entries;
+use crate::target::Target;
 use page::kind::Kind;
 use store::Store;
+use tree::path::{Branch, Path};
+use tree::reads::number_of_entries;
 use tree::top::Tree;
 
 // A page with n entries comes behind a run of full pages.
@@ -21,28 +22,29 @@ fn run_on(run: u32, n: usize, most: usize) -> u32
     if n == most { run + 1 } else { 0 }
 }
 
-// To the item at `at`, or with `gap` to where an item comes that is to have `at` items before it.
-pub fn descend<K: Kind, W: Store<M>, M>(m: &mut M, t: Tree, at: u64, gap: bool) -> Reached
+// To the item at `at`, or to the gap where an item comes that is to have `at` items before it.
+pub fn descend<K: Kind, W: Store>(m: &mut W::Memory, t: Tree, at: u64, target: Target) -> Reached
     requires lies { Lies K.Kind.layout (W.Store.memory m.old) t }
     requires tall { 0 < t.height }
-    requires there { at < length (holds K.Kind.layout (W.Store.memory m.old).block t) + more gap }
+    requires there { at < length (holds K.Kind.layout (W.Store.memory m.old).block t) + more target }
     requires asks { descend_asks ≤ (W.Store.memory m.old).left }
-    ensures { Descended K.Kind.layout (W.Store.memory m.old) t at gap result (W.Store.memory m.new) }
+    ensures { Descended K.Kind.layout (W.Store.memory m.old) t at target result (W.Store.memory m.new) }
 {
     let mut path = Path::new();
     let mut b = t.root;
     let mut rest = at;
     let mut full = 0;
-    let mut level = t.height - 1;
-    while level > 0 {
-        let step = choose_child::<K, W, M>(m, b, rest, gap);
-        path.push(b, step.child);
+    for _ in 1..t.height {
+        let step = choose_child::<K, W>(m, b, rest, target);
+        path.push(Branch {
+            block: b,
+            place: step.child,
+        });
         full = run_on(full, step.entries as usize, K::node_cap());
         b = step.block as u32;
         rest = step.rest;
-        level -= 1;
     }
-    let items = number_of_entries::<W, M>(m, b);
+    let items = number_of_entries::<W>(m, b);
     Reached {
         path,
         leaf: b,

@@ -9,6 +9,7 @@ ghost use Rattle.seek.specs.Items.{Updated};
 
 use crate::descend::descend;
 use crate::entry::{load_entry, store_entry};
+use crate::target::Target;
 use page::codec::Codec;
 use page::kind::Kind;
 use page::sizes::WORDS;
@@ -24,7 +25,7 @@ fn entry_number(at: u64) -> u32
 }
 
 // The item at a place of a leaf.
-fn read_item<K: Kind, W: Store<M>, M>(m: &mut M, leaf: u32, at: u64) -> K::Item
+fn read_item<K: Kind, W: Store>(m: &mut W::Memory, leaf: u32, at: u64) -> K::Item
     requires asks { item_asks ≤ (W.Store.memory m.old).left }
     requires there { Stored (W.Store.memory m.old).block leaf }
     requires few { length (K.Kind.layout.items ((W.Store.memory m.old).block leaf)) ≤ K.Kind.layout.leaf_cap }
@@ -32,12 +33,12 @@ fn read_item<K: Kind, W: Store<M>, M>(m: &mut M, leaf: u32, at: u64) -> K::Item
     ensures value { (d : K.Item) → result ≡ slice_index_or (K.Kind.layout.items ((W.Store.memory m.old).block leaf)) at d }
     ensures same { Reading item_asks (W.Store.memory m.old) (W.Store.memory m.new) }
 {
-    let words = load_entry::<K::Leaf, W, M>(m, leaf, entry_number(at));
+    let words = load_entry::<K::Leaf, W>(m, leaf, entry_number(at));
     K::Leaf::read(&words, 0)
 }
 
 // The item at a place of a leaf becomes x.
-fn write_item<K: Kind, W: Store<M>, M>(m: &mut M, leaf: u32, at: u64, x: K::Item)
+fn write_item<K: Kind, W: Store>(m: &mut W::Memory, leaf: u32, at: u64, x: K::Item)
     requires asks { item_asks ≤ (W.Store.memory m.old).left }
     requires there { Stored (W.Store.memory m.old).block leaf }
     requires few { length (K.Kind.layout.items ((W.Store.memory m.old).block leaf)) ≤ K.Kind.layout.leaf_cap }
@@ -46,29 +47,29 @@ fn write_item<K: Kind, W: Store<M>, M>(m: &mut M, leaf: u32, at: u64, x: K::Item
 {
     let mut words = [0; WORDS];
     K::Leaf::write(x, &mut words, 0);
-    store_entry::<K::Leaf, W, M>(m, leaf, entry_number(at), &words);
+    store_entry::<K::Leaf, W>(m, leaf, entry_number(at), &words);
 }
 
 // The item at i.
-pub fn at<K: Kind, W: Store<M>, M>(m: &mut M, t: Tree, i: u64) -> K::Item
+pub fn at<K: Kind, W: Store>(m: &mut W::Memory, t: Tree, i: u64) -> K::Item
     requires lies { Lies K.Kind.layout (W.Store.memory m.old) t }
     requires there { i < length (holds K.Kind.layout (W.Store.memory m.old).block t) }
     requires asks { at_asks ≤ (W.Store.memory m.old).left }
     ensures value { (d : K.Item) → result ≡ slice_index_or (holds K.Kind.layout (W.Store.memory m.old).block t) i d }
     ensures same { Reading at_asks (W.Store.memory m.old) (W.Store.memory m.new) }
 {
-    let place = descend::<K, W, M>(m, t, i, false);
-    read_item::<K, W, M>(m, place.leaf, place.at)
+    let place = descend::<K, W>(m, t, i, Target::Item);
+    read_item::<K, W>(m, place.leaf, place.at)
 }
 
 // The item at i becomes x, of which the same is kept as of what stood there.
-pub fn set<K: Kind, W: Store<M>, M>(m: &mut M, t: Tree, i: u64, x: K::Item)
+pub fn set<K: Kind, W: Store>(m: &mut W::Memory, t: Tree, i: u64, x: K::Item)
     requires lies { Lies K.Kind.layout (W.Store.memory m.old) t }
     requires there { i < length (holds K.Kind.layout (W.Store.memory m.old).block t) }
     requires alike { (xs ys : List K.Item) → K.Kind.layout.summary (xs ++ (x ∷ ys)) ≡ K.Kind.layout.summary (xs ++ (slice_index_or (holds K.Kind.layout (W.Store.memory m.old).block t) i x ∷ ys)) }
     requires asks { set_asks ≤ (W.Store.memory m.old).left }
     ensures { Updated K.Kind.layout t i x (W.Store.memory m.old) (W.Store.memory m.new) }
 {
-    let place = descend::<K, W, M>(m, t, i, false);
-    write_item::<K, W, M>(m, place.leaf, place.at, x);
+    let place = descend::<K, W>(m, t, i, Target::Item);
+    write_item::<K, W>(m, place.leaf, place.at, x);
 }

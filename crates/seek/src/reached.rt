@@ -1,8 +1,8 @@
 // Where a path down a tree ended.
-use crate::path::Path;
+use tree::path::Path;
 
 // A leaf, the path to it, a place in it, and how many pages in a row from the leaf upward are full.
-#[derive(Clone, Copy)]
+#[derive(Drop)]
 pub struct Reached {
     pub path: Path,
     pub leaf: u32,

@@ -11,7 +11,7 @@ use Rattle.seek.proofs.Readings.{reading_none, reading_asked}
 use Rattle.shrink.specs.Asks.{top_asks}
 use Rattle.shrink.specs.Deleting.{Topmost}
 use Rattle.shrink.specs.Shrinking.{Start, Climbing, Trimmed}
-use Rattle.shrink.proofs.Topping.{stored_of}
+use Rattle.shrink.specs.Tiers.{stored_of}
 use Rattle.shrink.proofs.Topping as topping
 
 module _ {E : Type 0} (K : Layout E) (lw : Lawful K) (z : Start E) (t : Tree) (m : Memory) where
@@ -69,11 +69,11 @@ module _ {E : Type 0} (K : Layout E) (lw : Lawful K) (z : Start E) (t : Tree) (m
             (record { times = r.times; few = omega (arith, r.few); is = r.is }))
 
         module _ (n : length kids ≡ 1) where
-          pub code_small : (d : Child) → (get_or kids 0 d).block < 1048576
-          code_small d = omega (arith, topping.only_small K lw z h m o node_climb (ap length same_kids ∙ n), ap (λ (ks : List Child). (get_or ks 0 none).block) same_kids, ap (λ (ks : List Child). (get_or ks 0 d).block) (topping.one_of kids n))
+          pub code_small : (get_or kids 0 none).block < 1048576
+          code_small = omega (arith, topping.only_small K lw z h m o node_climb (ap length same_kids ∙ n), ap (λ (ks : List Child). (get_or ks 0 none).block) same_kids)
 
-          pub code_node_gone : (t' : Tree) → ((d : Child) → t'.root ≡ (get_or kids 0 d).block) → t'.height ≡ t.height - 1 → (m₂ : Memory) → m₂ ≡ released t.root m₁ → Trimmed K z t'.height t'.root m₂
+          pub code_node_gone : (t' : Tree) → t'.root ≡ (get_or kids 0 none).block → t'.height ≡ t.height - 1 → (m₂ : Memory) → m₂ ≡ released t.root m₁ → Trimmed K z t'.height t'.root m₂
           code_node_gone t' e eh m₂ q =
               subst (λ (x : ℕ). Trimmed K z x t'.root m₂) (omega arith)
-              (subst (λ (b : ℕ). Trimmed K z (suc h) b m₂) (sym (e none ∙ ap (λ (ks : List Child). (get_or ks 0 none).block) (sym same_kids)))
+              (subst (λ (b : ℕ). Trimmed K z (suc h) b m₂) (sym (e ∙ ap (λ (ks : List Child). (get_or ks 0 none).block) (sym same_kids)))
               (topping.taken_up K lw z h m o node_climb (ap length same_kids ∙ n) m₁ m₂ r (q ∙ ap (λ (b : ℕ). released b m₁) (sym v.root))))

@@ -1,5 +1,5 @@
 -- A deletion as code has it: the path down, the leaf, the climb and the top.
-use Rattle.std.proofs.Common.{◌≡◌, ℕ, suc, ◌+◌, ◌-◌, ◌*◌, ◌<◌, ◌≤◌, false, List, [], ◌++◌, length, get_or, take, drop, Option, refl, ap, ◌∙◌, subst, arith, length-append, length-drop, length-take}
+use Rattle.std.proofs.Common.{◌≡◌, ℕ, suc, ◌+◌, ◌-◌, ◌*◌, ◌<◌, ◌≤◌, List, [], ◌++◌, length, get_or, take, drop, Option, refl, ap, ◌∙◌, subst, arith, length-append, length-drop, length-take}
 use Rattle.page.specs.declared.child.Child.{Child}
 use Rattle.page.specs.Layout.{Layout, Lawful, entry_of_leaf}
 use Rattle.store.specs.Memory.{Memory}
@@ -10,13 +10,13 @@ use Rattle.tree.specs.Pages.{page_asks, Reading}
 use Rattle.tree.specs.Tree.{contents}
 use Rattle.tree.specs.Trees.{holds, Lies}
 use Rattle.seek.specs.declared.reached.Reached.{Reached}
+use Rattle.seek.specs.declared.target.Target.TheVariants.{Item}
 use Rattle.seek.specs.Asks.{descend_asks}
-use Rattle.seek.specs.Descent.{nodes, Descended}
+use Rattle.seek.specs.Descent.{Descended}
 use Rattle.seek.proofs.Readings.{reading_then, reading_blocks}
 use Rattle.tree.proofs.Low.{height_low}
 use Rattle.seek.proofs.Tops.{tall_low}
 use Rattle.seek.proofs.Landing.{tall_some, contents_when_tall, uses_when_tall, tall_root, leaf_item}
-use Rattle.seek.proofs.Standing.{branches_length}
 use Rattle.shrink.specs.Asks.{delete_asks, turn_asks, top_asks, leaf_asks}
 use Rattle.shrink.specs.Deleting.{Topmost, Deleted}
 use Rattle.shrink.specs.Putting.{Put}
@@ -50,19 +50,19 @@ module _ {E : Type 0} (K : Layout E) (lw : Lawful K) (wide : 20 ≤ K.node_cap) 
     left = asks;
   }
 
-  module _ (r : Reached) (m₁ m₂ m₃ : Memory) (d : Descended K m t p false r m₁) (read : Reading page_asks m₁ m₂) where
+  module _ (r : Reached) (m₁ m₂ m₃ : Memory) (d : Descended K m t p Item r m₁) (read : Reading page_asks m₁ m₂) where
     items : K.items (m₁.block r.leaf) ≡ K.items (f r.leaf)
     items = ap (λ (g : Mem). K.items (g r.leaf)) (reading_blocks descend_asks m m₁ d.same)
 
-    room : descend_asks + leaf_asks + (length (nodes r.path) * turn_asks + top_asks) ≤ delete_asks
-    room = omega (arith, branches_length r.path.blocks r.path.places r.path.depth, d.deep, height_low K wide t.height f t.root lies.stands lies.once)
+    room : descend_asks + leaf_asks + (length (r.path) * turn_asks + top_asks) ≤ delete_asks
+    room = omega (arith, d.deep, height_low K wide t.height f t.root lies.stands lies.once)
 
     -- es is the page of the leaf, and es' what is left of it
     pub code_begun : (es es' : List E) (o : Option Child) → es ≡ K.items (m₁.block r.leaf) → es' ≡ take r.at es ++ drop (suc r.at) es
-        → Put K.items (entry_of_leaf K) K.leaf_cap r.leaf es' m₂ o m₃ → Climbing K start 0 (nodes r.path) m₃ o
+        → Put K.items (entry_of_leaf K) K.leaf_cap r.leaf es' m₂ o m₃ → Climbing K start 0 (r.path) m₃ o
     unfolding contents
     code_begun es es' o e e' q =
-        begun K lw start starts p r.leaf r.at (nodes r.path) d.down m₂ m₃ o goal room (reading_then descend_asks page_asks (descend_asks + page_asks) m m₁ m₂ (omega arith) d.same read)
+        begun K lw start starts p r.leaf r.at (r.path) d.down m₂ m₃ o goal room (reading_then descend_asks page_asks (descend_asks + page_asks) m m₁ m₂ (omega arith) d.same read)
         (length_without (K.items (f r.leaf)) r.at (omega (arith, d.down.inside)))
         (subst (λ (ys : List E). Put K.items (entry_of_leaf K) K.leaf_cap r.leaf ys m₂ o m₃) (e' ∙ ap (λ (ys : List E). take r.at ys ++ drop (suc r.at) ys) (e ∙ items)) q)
       where
@@ -72,7 +72,7 @@ module _ {E : Type 0} (K : Layout E) (lw : Lawful K) (wide : 20 ≤ K.node_cap) 
         goal : take p xs ++ drop (suc p) xs ≡ take p (contents K (t.height - 1) f t.root) ++ drop (suc p) (contents K (t.height - 1) f t.root)
         goal = ap (λ (ys : List E). take p ys ++ drop (suc p) ys) same
 
-    pub code_topmost : (m₄ : Memory) (o : Option Child) → Climbing K start r.path.depth [] m₄ o → Topmost K start t m₄ o
+    pub code_topmost : (m₄ : Memory) (o : Option Child) → Climbing K start (length r.path) [] m₄ o → Topmost K start t m₄ o
     code_topmost m₄ o v = record { level = omega (arith, tall); root = refl; climbing = subst (λ (h : ℕ). Climbing K start h [] m₄ o) (omega (arith, d.deep)) v }
 
     pub code_deleted : (es : List E) (x : E) (t' : Tree) (m₅ : Memory) → es ≡ K.items (m₁.block r.leaf) → ((y : E) → x ≡ get_or es r.at y) → Trimmed K start t'.height t'.root m₅ → Deleted K p t m t' x m₅

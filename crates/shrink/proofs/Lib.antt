@@ -1,14 +1,10 @@
-pub mod Opening
 pub mod Evening
-pub mod Sharing
 pub mod Topping
-pub mod Pairing
-pub mod Sorts
+pub mod CodeTop
+pub mod Opening
 pub mod Turning
 pub mod Written
-pub mod Putting
 pub mod Replacing
 pub mod CodeTurns
 pub mod CodeClimb
-pub mod CodeTop
 pub mod Deletes

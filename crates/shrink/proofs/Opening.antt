@@ -8,7 +8,8 @@ use Rattle.store.proofs.Sums.{hit_same}
 use Rattle.store.proofs.Stepping.{step_same}
 use Rattle.store.proofs.Running.{ran_as, ran_beside}
 use Rattle.tree.specs.Tree.{total, flat, All, contents, uses, many, low, least, Sound, contents_of, uses_of, ChildOk, ChildrenOk, Root}
-use Rattle.tree.specs.Paths.{Branch, left, right, Path, before, behind, around, Seen}
+use Rattle.tree.specs.declared.path.Branch.{Branch}
+use Rattle.tree.specs.Paths.{left, right, Path, before, behind, around, Seen}
 use Rattle.tree.proofs.Each.{flat_append, total_append, All-left, All-right}
 use Rattle.tree.proofs.Frames.{KeptAll, frame_all}
 use Rattle.tree.proofs.Paths.{around_child, child, node_child, node_uses, seen}

@@ -2,11 +2,10 @@
 use Rattle.std.proofs.Common.{◌≡◌, ℕ, zero, suc, ◌+◌, ◌<◌, ◌≤◌, List, [], ◌∷◌, length, get_or, Some, Option, sym, refl, ap, ◌∙◌, subst, append-nil, arith}
 use Rattle.page.specs.declared.child.Child.{Child}
 use Rattle.page.specs.Layout.{Layout, Lawful}
-use Rattle.store.specs.Memory.{Memory, Stored, asked, released}
-use Rattle.store.specs.Steps.{Mem, Ran, hit, held, held_in}
-use Rattle.store.proofs.Sums.{at_sum_to}
+use Rattle.store.specs.Memory.{Memory, asked, released}
+use Rattle.store.specs.Steps.{Mem, Ran, hit, held_in}
 use Rattle.store.proofs.Stepping.{step_same}
-use Rattle.store.proofs.Running.{ran_as, ran_part, ran_then, ran_asked, ran_more, ran_release, stored_held}
+use Rattle.store.proofs.Running.{ran_as, ran_part, ran_then, ran_asked, ran_more, ran_release}
 use Rattle.tree.specs.Pages.{page_asks, Reading}
 use Rattle.tree.specs.Tree.{total, flat, All, contents, uses, many, low, least, Sound, Root, Kept, ChildOk}
 use Rattle.tree.specs.Paths.{Path, before, behind, none}
@@ -14,22 +13,13 @@ use Rattle.tree.specs.Tall.{tall_contents, tall_uses, Tall}
 use Rattle.tree.proofs.Frames.{frame}
 use Rattle.tree.proofs.Roots.{child_root}
 use Rattle.shrink.specs.Asks.{top_asks}
+use Rattle.shrink.specs.Tiers.{some_held, stored_of}
 use Rattle.shrink.specs.Shrinking.{Start, Climbing, Trimmed}
-
--- a block that is held is counted
-pub some_held : (m : Memory) (b : ℕ) → Stored m.block b → m.many ≡ held_in m.block → 0 < m.many
-some_held m b s e = omega (arith, at_sum_to 1048576 b (held m.block) s.0, stored_held m.block b s)
 
 pub one_of : (xs : List Child) → length xs ≡ 1 → xs ≡ get_or xs 0 none ∷ []
 one_of [] e = absurd (omega arith)
 one_of (x ∷ []) e = refl
 one_of (x ∷ (y ∷ ys)) e = absurd (omega arith)
-
--- a page that is sound is held
-pub stored_of : {E : Type 0} (K : Layout E) (h : ℕ) (f : Mem) (b : ℕ) → Sound K h f b → Stored f b
-unfolding Sound
-stored_of K zero f b s = s.0
-stored_of K (suc h) f b s = s.0
 
 module _ {E : Type 0} (K : Layout E) (lw : Lawful K) (z : Start E) where
   least_low : (h : ℕ) → least K h ≤ low K h

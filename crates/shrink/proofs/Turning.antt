@@ -9,7 +9,8 @@ use Rattle.store.proofs.Stepping.{step_same}
 use Rattle.store.proofs.Running.{ran_as, ran_part, ran_then, ran_asked}
 use Rattle.tree.specs.Pages.{page_asks, Reading}
 use Rattle.tree.specs.Tree.{total, flat, All, contents, uses, many, low, Sound, contents_of, uses_of, ChildOk, ChildrenOk}
-use Rattle.tree.specs.Paths.{Branch, none, left, right, before, behind}
+use Rattle.tree.specs.declared.path.Branch.{Branch}
+use Rattle.tree.specs.Paths.{none, left, right, before, behind}
 use Rattle.tree.proofs.Each.{flat_append, total_append, All-++, All-left, All-right}
 use Rattle.tree.proofs.Frames.{KeptAll, frame_all}
 use Rattle.tree.proofs.Paths.{around_child, child}

@@ -8,7 +8,8 @@ use Rattle.store.proofs.Stepping.{step_as}
 use Rattle.store.proofs.Running.{ran_as, ran_part, ran_then, ran_asked, ran_more}
 use Rattle.tree.specs.Pages.{page_asks, Reading, Writing}
 use Rattle.tree.specs.Tree.{contents, uses, many, low, Sound, contents_of, uses_of, ChildOk, ChildrenOk}
-use Rattle.tree.specs.Paths.{Branch, before, behind}
+use Rattle.tree.specs.declared.path.Branch.{Branch}
+use Rattle.tree.specs.Paths.{before, behind}
 use Rattle.tree.specs.Roots.{Rooted}
 use Rattle.tree.specs.Down.{Down}
 use Rattle.tree.proofs.Writing.{stored_after, wrote_reads}

@@ -3,7 +3,7 @@
 use Rattle.std.specs.Prelude.{ℕ, ◌+◌, ◌*◌}
 use Rattle.tree.specs.Pages.{page_asks}
 use Rattle.seek.specs.Asks.{descend_asks}
-use Rattle.seek.specs.Sizes.{top_level}
+use Rattle.tree.specs.Sizes.{top_level}
 
 -- two neighbours are read, and written as one page or two
 abbrev pub share_asks : ℕ

@@ -3,4 +3,5 @@ pub mod Putting
 pub mod Sharing
 pub mod Shrinking
 pub mod Turning
+pub mod Tiers
 pub mod Deleting

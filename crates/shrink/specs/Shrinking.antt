@@ -7,7 +7,8 @@ use Rattle.store.specs.Memory.{Memory, Stored}
 use Rattle.store.specs.Steps.{Ran, hit, held, held_in}
 use Rattle.tree.specs.Pages.{page_asks}
 use Rattle.tree.specs.Tree.{contents, uses, many, low, Sound, contents_of, uses_of, ChildOk, ChildrenOk, Root}
-use Rattle.tree.specs.Paths.{Branch, Path, before, behind}
+use Rattle.tree.specs.declared.path.Branch.{Branch}
+use Rattle.tree.specs.Paths.{Path, before, behind}
 use Rattle.tree.specs.Tall.{tall_contents, tall_uses, Tall}
 use Rattle.shrink.specs.Asks.{turn_asks, top_asks}
 

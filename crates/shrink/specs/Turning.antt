@@ -1,10 +1,11 @@
 -- A turn of the climb as code has it: a node is read, what is below it is put right, and it is written.
 -- Assumes nothing.
-use Rattle.std.specs.Prelude.{◌≡◌, ℕ, suc, Bool, List, ◌∷◌, ◌++◌, take, drop, Option, ◌==◌, slice_index_or}
+use Rattle.std.specs.Prelude.{◌≡◌, ℕ, suc, List, ◌∷◌, ◌++◌, take, drop, Option, slice_index_or}
 use Rattle.page.specs.declared.child.Child.{Child}
 use Rattle.page.specs.Layout.{Layout}
 use Rattle.store.specs.Memory.{Memory}
-use Rattle.tree.specs.Paths.{Branch, none}
+use Rattle.tree.specs.declared.path.Branch.{Branch}
+use Rattle.tree.specs.Paths.{none}
 use Rattle.shrink.specs.Asks.{share_asks}
 use Rattle.shrink.specs.Sharing.{Neighbours, Shared}
 use Rattle.shrink.specs.Shrinking.{Start, Climbing}
@@ -15,19 +16,15 @@ pub record Site (E : Type 0) : Type 0 where
   pub level : ℕ
   pub above : List Branch
 
--- pages of level h: whether they are leaves
-abbrev pub Leaves : Bool → ℕ → Type 0
-Leaves leaves h = leaves ≡ (h == 0)
-
--- two neighbours that are leaves or nodes
-pub record Next {E : Type 0} (K : Layout E) (leaves : Bool) (h a b : ℕ) (m : Memory) : Type 0 where
-  pub sort : Leaves leaves h
+-- two neighbours on a level that is one of these
+pub record Next {E : Type 0} (K : Layout E) (at : ℕ → Type 0) (h a b : ℕ) (m : Memory) : Type 0 where
+  pub level : at h
   pub neighbours : Neighbours K h a b m
 
--- the climb is at the child of a node, at this place in it
-pub record Below {E : Type 0} (K : Layout E) (s : Site E) (leaves : Bool) (block place : ℕ) (m : Memory) (o : Option Child) : Type 0 where
-  pub sort : Leaves leaves s.level
-  pub climbing : Climbing K s.start s.level (record { block = block; place = place } ∷ s.above) m o
+-- the climb is at a child of the node w, on a level that is one of these
+pub record Below {E : Type 0} (K : Layout E) (at : ℕ → Type 0) (s : Site E) (w : Branch) (m : Memory) (o : Option Child) : Type 0 where
+  pub level : at s.level
+  pub climbing : Climbing K s.start s.level (w ∷ s.above) m o
 
 -- the children of a node are es, and those at i and behind it were shared
 pub record Mended {E : Type 0} (K : Layout E) (h i : ℕ) (es : List Child) (m : Memory) (es' : List Child) (m' : Memory) : Type 0 where

@@ -5,5 +5,6 @@ mod climb;
 pub mod delete;
 pub mod put;
 pub mod share;
+mod tier;
 mod trim;
 mod turn;

@@ -1,16 +1,14 @@
 // A page is written, and what stands above it is made where the page is full enough.
-ghost use Rattle.std.specs.Prelude.{◌≡◌, ◌^◌, ◌<◌, ◌≤◌, true, false};
-ghost use Rattle.page.specs.Layout.{counts, entry_of, half, entry_of_leaf};
+ghost use Rattle.std.specs.Prelude.{◌≡◌, ◌^◌, ◌<◌, ◌≤◌, true, false, length};
+ghost use Rattle.page.specs.Layout.{half};
 ghost use Rattle.page.specs.Sizes.{page_limit};
-ghost use Rattle.page.specs.View.{entries};
 ghost use Rattle.store.specs.Memory.{Stored};
 ghost use Rattle.tree.specs.Pages.{page_asks};
 ghost use Rattle.shrink.specs.Putting.{Put};
 
 use page::child::Child;
-use page::kind::Kind;
+use page::level::Level;
 use page::page::Page;
-use page::summary::{leaf_entry, node_entry};
 use store::Store;
 use tree::pages::store_page;
 
@@ -23,31 +21,17 @@ fn is_low(len: usize, most: usize) -> bool
     2 * len < most
 }
 
-// A leaf: nothing stands above one that is too empty.
-pub fn put_leaf<K: Kind, W: Store<M>, M>(m: &mut M, b: u32, page: &Page<K::Leaf>) -> Option<Child>
+// Nothing stands above a page that is too empty.
+pub fn put<L: Level, W: Store>(m: &mut W::Memory, b: u32, page: &Page<L::Entry>) -> Option<Child>
     requires asks { page_asks ≤ (W.Store.memory m.old).left }
     requires there { Stored (W.Store.memory m.old).block b }
-    requires few { page.now.len ≤ K.Kind.layout.leaf_cap }
-    ensures { Put K.Kind.layout.items (entry_of_leaf K.Kind.layout) K.Kind.layout.leaf_cap b (entries K.Leaf.Codec.width K.Leaf.Codec.decode page.now) (W.Store.memory m.old) result (W.Store.memory m.new) }
+    requires few { length page.now ≤ L.Level.most }
+    requires counted { L.Level.items_under page.now < 2 ^ 64 }
+    ensures { Put L.Level.read L.Level.entry L.Level.most b page.now (W.Store.memory m.old) result (W.Store.memory m.new) }
 {
-    store_page::<K::Leaf, W, M>(m, b, page);
-    if is_low(page.len(), K::leaf_cap()) {
+    store_page::<L, W>(m, b, page);
+    if is_low(page.len(), L::most()) {
         return None;
     }
-    Some(leaf_entry::<K>(b as u64, page))
-}
-
-// A node.
-pub fn put_node<K: Kind, W: Store<M>, M>(m: &mut M, b: u32, page: &Page<K::Node>) -> Option<Child>
-    requires asks { page_asks ≤ (W.Store.memory m.old).left }
-    requires there { Stored (W.Store.memory m.old).block b }
-    requires few { page.now.len ≤ K.Kind.layout.node_cap }
-    requires counts { counts (entries K.Node.Codec.width K.Node.Codec.decode page.now) < 2 ^ 64 }
-    ensures { Put K.Kind.layout.children (entry_of K.Kind.layout) K.Kind.layout.node_cap b (entries K.Node.Codec.width K.Node.Codec.decode page.now) (W.Store.memory m.old) result (W.Store.memory m.new) }
-{
-    store_page::<K::Node, W, M>(m, b, page);
-    if is_low(page.len(), K::node_cap()) {
-        return None;
-    }
-    Some(node_entry::<K>(b as u64, page))
+    Some(L::entry(b as u64, page))
 }

@@ -3,5 +3,4 @@ pub mod Stepping
 pub mod Memories
 pub mod Running
 pub mod Loading
-pub mod Places
 pub mod Stocking

@@ -30,12 +30,6 @@ asked_then a k m = memory_ext _ _ (λ c. refl) refl (omega arith) refl refl
 pub wrote_then : (a k b : ℕ) (xs ys : List ℕ) (m : Memory) → wrote a b ys (wrote k b xs m) ≡ wrote (a + k) b ys m
 wrote_then a k b xs ys m = memory_ext _ _ (λ c. at_at b xs ys m.block c) refl (omega arith) refl refl
 
-pub wrote_asked : (a k b : ℕ) (ws : List ℕ) (m : Memory) → wrote a b ws (asked k m) ≡ wrote (a + k) b ws m
-wrote_asked a k b ws m = memory_ext _ _ (λ c. refl) refl (omega arith) refl refl
-
-pub asked_wrote : (a k b : ℕ) (ws : List ℕ) (m : Memory) → asked a (wrote k b ws m) ≡ wrote (a + k) b ws m
-asked_wrote a k b ws m = memory_ext _ _ (λ c. refl) refl (omega arith) refl refl
-
 -- nothing is written
 pub wrote_none : (b : ℕ) (m : Memory) → m ≡ wrote 0 b (m.block b) m
 wrote_none b m = memory_ext _ _ (λ c. sym (at_self b m.block c)) refl (omega arith) refl refl
@@ -48,6 +42,3 @@ written_wrote k b i x xs ys m e =
 
 pub wrote_block : (k b : ℕ) (ws : List ℕ) (m m' : Memory) → m' ≡ wrote k b ws m → m'.block b ≡ ws
 wrote_block k b ws m m' e = ap (λ (x : Memory). x.block b) e ∙ at_same b ws m.block
-
-pub wrote_other : (k b : ℕ) (ws : List ℕ) (m m' : Memory) → m' ≡ wrote k b ws m → (c : ℕ) → (c ≡ b → ⊥) → m'.block c ≡ m.block c
-wrote_other k b ws m m' e c n = ap (λ (x : Memory). x.block c) e ∙ at_other b ws m.block c n

@@ -64,9 +64,6 @@ module _ (k k' : ℕ) (t v u u' w : ℕ → ℕ) (m m' m'' : Memory) (all : Ran 
 pub ran_asked : (k : ℕ) (u : ℕ → ℕ) (m : Memory) → Ran k u u m (asked k m)
 ran_asked k u m = record { step = step_none u m.block; number = refl; asks = omega arith; top = refl; failed = refl }
 
-pub ran_read : (u : ℕ → ℕ) (m : Memory) → Ran 1 u u m (asked 1 m)
-ran_read = ran_asked 1
-
 -- writing
 pub ran_wrote : (k b : ℕ) (ws : List ℕ) (m : Memory) → Stored m.block b → 0 < length ws → Ran k (hit b) (hit b) m (wrote k b ws m)
 ran_wrote k b ws m s l =

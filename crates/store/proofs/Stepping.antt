@@ -29,10 +29,6 @@ module _ (u u' v : ℕ → ℕ) (f g : Mem) (s : Step u u' f g) where
   pub step_fits : ((c : ℕ) → u c + v c ≤ held f c) → (c : ℕ) → u' c + v c ≤ held g c
   step_fits a c = omega (arith, a c, s.balanced c)
 
-  -- the account
-  pub step_account : ((c : ℕ) → u c + v c ≡ held f c) → (c : ℕ) → u' c + v c ≡ held g c
-  step_account a c = omega (arith, a c, s.balanced c)
-
 pub step_as : (u u' v v' : ℕ → ℕ) (f g : Mem) → ((c : ℕ) → v c ≡ u c) → ((c : ℕ) → v' c ≡ u' c) → Step u u' f g → Step v v' f g
 step_as u u' v v' f g a b s = record {
   balanced = λ c. omega (arith, a c, b c, s.balanced c);

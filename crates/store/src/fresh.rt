@@ -12,7 +12,7 @@ pub struct Fresh {
 }
 
 impl Fresh {
-    fn new(number: u32) -> Fresh
+    pub(crate) fn new(number: u32) -> Fresh
         requires { number < 1048576 }
         ensures { result.number ≡ number }
     {
@@ -20,18 +20,19 @@ impl Fresh {
     }
 
     // None: the memory refused.
-    pub fn obtain<W: Store<M>, M>(m: &mut M) -> Option<Fresh>
-        requires { (0 < (W.Store.memory m.old).left) × ((W.Store.memory m.old).many < (W.Store.memory m.old).top) }
+    pub fn obtain<W: Store>(m: &mut W::Memory) -> Option<Fresh>
+        requires asks { 0 < (W.Store.memory m.old).left }
+        requires room { (W.Store.memory m.old).many < (W.Store.memory m.old).top }
         ensures { MatchOption result (W.Store.memory m.new ≡ refused (W.Store.memory m.old)) (λ f. Obtained (W.Store.memory m.old) f.number (W.Store.memory m.new)) }
     {
-        match W::obtain(m) {
-            Some(number) => Some(Fresh::new(number)),
-            None => None,
-        }
+        let number = W::obtain(m)?;
+        Some(Fresh::new(number))
     }
 
-    pub fn give_back<W: Store<M>, M>(self, m: &mut M)
-        requires { (0 < (W.Store.memory m.old).left) × ((0 < (W.Store.memory m.old).many) × (Stored (W.Store.memory m.old).block self.number)) }
+    pub fn give_back<W: Store>(self, m: &mut W::Memory)
+        requires asks { 0 < (W.Store.memory m.old).left }
+        requires held { 0 < (W.Store.memory m.old).many }
+        requires there { Stored (W.Store.memory m.old).block self.number }
         ensures { Returned (W.Store.memory m.old) self.number (W.Store.memory m.new) }
     {
         W::release(m, self.into_block());
@@ -39,7 +40,8 @@ impl Fresh {
 
     // The block becomes part of a tree.
     pub fn into_block(self) -> u32
-        ensures { (result ≡ self.number) × (result < 1048576) }
+        ensures block { result ≡ self.number }
+        ensures small { result < 1048576 }
     {
         let Fresh { number: block } = self;
         block

@@ -9,23 +9,34 @@ pub mod gather;
 pub mod reserve;
 pub mod words;
 
-// Memory of blocks of 64 words, held in a value of type M. Each call is one asking.
-pub trait Store<M> {
-    ghost memory: { M → Memory };
+// Memory of blocks of 64 words, held in a value of another type. Each call is one asking.
+// Not methods of that type: an impl for all types with a trait of another crate is refused, and what is known of
+// a value is lost in a struct that holds a `&mut` to it.
+pub trait Store {
+    type Memory;
 
-    fn obtain(m: &mut M) -> Option<u32>
-        requires { (0 < (memory m.old).left) × ((memory m.old).many < (memory m.old).top) }
+    ghost memory: { Self.Memory → Memory };
+
+    fn obtain(m: &mut Self::Memory) -> Option<u32>
+        requires asks { 0 < (memory m.old).left }
+        requires room { (memory m.old).many < (memory m.old).top }
         ensures { MatchOption result (memory m.new ≡ refused (memory m.old)) (λ b. Got (memory m.old) b (memory m.new)) };
 
-    fn release(m: &mut M, b: u32)
-        requires { (0 < (memory m.old).left) × (Stored (memory m.old).block b) }
+    fn release(m: &mut Self::Memory, b: u32)
+        requires asks { 0 < (memory m.old).left }
+        requires there { Stored (memory m.old).block b }
         ensures { memory m.new ≡ released b (memory m.old) };
 
-    fn get(m: &mut M, b: u32, i: u32) -> u64
-        requires { (0 < (memory m.old).left) × ((Stored (memory m.old).block b) × (i < 64)) }
-        ensures { (result ≡ slice_index ((memory m.old).block b) i) × (memory m.new ≡ asked 1 (memory m.old)) };
+    fn get(m: &mut Self::Memory, b: u32, i: u32) -> u64
+        requires asks { 0 < (memory m.old).left }
+        requires there { Stored (memory m.old).block b }
+        requires inside { i < 64 }
+        ensures word { result ≡ slice_index ((memory m.old).block b) i }
+        ensures same { memory m.new ≡ asked 1 (memory m.old) };
 
-    fn put(m: &mut M, b: u32, i: u32, x: u64)
-        requires { (0 < (memory m.old).left) × ((Stored (memory m.old).block b) × (i < 64)) }
+    fn put(m: &mut Self::Memory, b: u32, i: u32, x: u64)
+        requires asks { 0 < (memory m.old).left }
+        requires there { Stored (memory m.old).block b }
+        requires inside { i < 64 }
         ensures { memory m.new ≡ written b i x (memory m.old) };
 }

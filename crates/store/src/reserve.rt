@@ -1,70 +1,72 @@
-// A few blocks got in advance. It is emptied before it is dropped.
-ghost use Rattle.std.specs.Prelude.{◌≡◌, ℕ, ◌<◌, ◌≤◌, true, false, length, is_some, None, slice_index_or};
-ghost use Rattle.store.specs.Uses.{capacity};
+// A few blocks got in advance, which clauses see as the list of their numbers, last in first. It is
+// emptied before it is dropped.
+ghost use Rattle.std.specs.Prelude.{◌≡◌, ℕ, ◌<◌, ◌≤◌, List, [], ◌∷◌, length, reverse, IfSome, IfNone};
+ghost use Rattle.std.specs.List.{All};
+ghost use Rattle.store.specs.Reserve.{capacity};
 
 use crate::fresh::Fresh;
-
-mod hold;
+use arrayvec::ArrayVec;
+use std::marker::Model;
 
 // So many blocks fit.
 pub const CAPACITY: usize = 16;
 
-// The first places have a block, the others none.
 pub struct Reserve {
-    places: [Option<Fresh>; CAPACITY],
-    count: usize,
-    ghost whole: { length places ≡ capacity },
-    ghost few: { count ≤ capacity },
-    ghost there: { (i : ℕ) → i < count → is_some (slice_index_or places i None) ≡ true },
-    ghost others: { (i : ℕ) → count ≤ i → is_some (slice_index_or places i None) ≡ false },
+    numbers: ArrayVec<u32, CAPACITY>,
+}
+
+impl Model for Reserve {
+    ghost Value = { List ℕ };
+
+    ghost view = { λ r. reverse r.numbers.items };
+
+    ghost invariant = { λ r. All (λ b. b < 1048576) r.numbers.items };
 }
 
 impl Drop for Reserve {
     fn drop(self)
-        requires { self.count ≡ 0 }
+        requires { self ≡ [] }
     {
-        let Reserve { places, count: _ } = self;
-        let [
-            a0,
-            a1,
-            a2,
-            a3,
-            a4,
-            a5,
-            a6,
-            a7,
-            a8,
-            a9,
-            a10,
-            a11,
-            a12,
-            a13,
-            a14,
-            a15,
-        ] = places;
-        drop_none(a0);
-        drop_none(a1);
-        drop_none(a2);
-        drop_none(a3);
-        drop_none(a4);
-        drop_none(a5);
-        drop_none(a6);
-        drop_none(a7);
-        drop_none(a8);
-        drop_none(a9);
-        drop_none(a10);
-        drop_none(a11);
-        drop_none(a12);
-        drop_none(a13);
-        drop_none(a14);
-        drop_none(a15);
+        let Reserve { numbers: _ } = self;
     }
 }
 
-fn drop_none(place: Option<Fresh>)
-    requires { is_some place ≡ false }
-{
-    if let Some(f) = place {
-        let _block = f.into_block();
+impl Reserve {
+    pub fn new() -> Reserve
+        ensures { result ≡ [] }
+    {
+        Reserve {
+            numbers: ArrayVec::new(),
+        }
+    }
+
+    pub fn len(&self) -> usize
+        ensures value { result ≡ length self.now }
+        ensures few { result ≤ capacity }
+    {
+        self.numbers.len()
+    }
+
+    pub fn push(&mut self, f: Fresh)
+        requires { length self.old < capacity }
+        ensures { self.new ≡ f.number ∷ self.old }
+    {
+        self.numbers.push(f.into_block());
+    }
+
+    pub fn pop(&mut self) -> Option<Fresh>
+        ensures some { IfSome result (λ f. self.old ≡ f.number ∷ self.new) }
+        ensures none { IfNone result (self.old ≡ []) }
+        ensures empty { IfNone result (self.new ≡ []) }
+    {
+        let number = self.numbers.pop()?;
+        Some(Fresh::new(number))
+    }
+
+    pub fn take(&mut self) -> Fresh
+        requires { 0 < length self.old }
+        ensures { self.old ≡ result.number ∷ self.new }
+    {
+        self.pop().unwrap()
     }
 }

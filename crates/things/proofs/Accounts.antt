@@ -1,5 +1,5 @@
 -- The account over all names: it is kept when what is under one name, or two, changes and all else is left alone.
-use Rattle.std.proofs.Common.{◌≡◌, ℕ, zero, suc, ◌+◌, ◌<◌, ◌≤◌, length, set, sym, refl, ap, ◌∙◌, inl, inr, arith}
+use Rattle.std.proofs.Common.{◌≡◌, ℕ, zero, suc, ◌+◌, ◌<◌, ◌≤◌, length, set, Option, sym, refl, ap, ◌∙◌, inl, inr, arith}
 use mathlib.Core.Path.{fun_ext, subst⁻¹}
 use native.Mathlib.Decide.{ℕ_discrete}
 use Rattle.std.proofs.lemmas.Bool.{eq-eqb, ne_eqb}
@@ -7,10 +7,10 @@ use Rattle.std.proofs.lemmas.Bool.Decides.{leb_tells}
 use Rattle.store.specs.Steps.{Step, held_in, sum_to}
 use Rattle.store.proofs.Sums.{sum_to_one, sum_to_two, at_sum_to}
 use Rattle.store.proofs.Stepping.{step_same}
-use Rattle.things.specs.declared.state.Slot.{Slot}
+use Rattle.things.specs.declared.state.Kept.{Kept}
 use Rattle.things.specs.declared.state.Things.{Things}
 use Rattle.things.specs.Things.{Thing, Shelf, put}
-use Rattle.things.specs.State.{Words, Whole, Parts, Sound, thing, shelf_of, slot_of, slot_uses, SlotStands}
+use Rattle.things.specs.State.{names, Words, Whole, Parts, Sound, thing, shelf_of, slot_of, slot_uses, SlotStands}
 use Rattle.things.proofs.Slots.{SlotKept, slot_frame, laid_size, laid_here, laid_other, slot_past}
 
 -- two names among all, and three
@@ -47,7 +47,7 @@ put_other : (n k : ℕ) (t : Thing) (v : Shelf) → (k ≡ n → ⊥) → put n 
 put_other n k t v d = rw (ne_eqb k n d)
 
 -- what is past the names looks the same in any blocks
-past_thing : (s : Things) (f f' : Words) (k : ℕ) → length s.slots ≡ 256 → 256 ≤ k → thing (slot_of s k) f' ≡ thing (slot_of s k) f
+past_thing : (s : Things) (f f' : Words) (k : ℕ) → length s.slots ≡ names → names ≤ k → thing (slot_of s k) f' ≡ thing (slot_of s k) f
 past_thing s f f' k e l = rw (slot_past s k e l)
 
 -- the things are sound in these blocks, and the shelf is v
@@ -55,12 +55,12 @@ pub record Settled (s : Things) (f : Words) (many : ℕ) (v : Shelf) : Type 0 wh
   pub sound : Sound s f many
   pub shelf : shelf_of s f ≡ v
 
-module _ (s s' : Things) (f f' : Words) (m m' n : ℕ) (x : Slot) (h : Sound s f m) (low : n < 256) (e : s'.slots ≡ set s.slots n x)
+module _ (s s' : Things) (f f' : Words) (m m' n : ℕ) (x : Option Kept) (h : Sound s f m) (low : n < names) (e : s'.slots ≡ set s.slots n x)
     (st : Step (slot_uses f (slot_of s n)) (slot_uses f' x) f f') (ok : SlotStands f' x) (num : m' + held_in f ≡ m + held_in f') where
-  one_kept : (k : ℕ) → k < 256 → (k ≡ n → ⊥) → SlotKept f f' (slot_of s k)
+  one_kept : (k : ℕ) → k < names → (k ≡ n → ⊥) → SlotKept f f' (slot_of s k)
   unfolding Whole
   one_kept k l d = slot_frame f f' (slot_of s k) (step_same _ _ (slot_uses f (slot_of s k)) f f' st
-      (λ c. omega (arith, h.whole.account c, at_two 256 k n (λ i. slot_uses f (slot_of s i) c) l low d)))
+      (λ c. omega (arith, h.whole.account c, at_two names k n (λ i. slot_uses f (slot_of s i) c) l low d)))
 
   one_here : slot_of s' n ≡ x
   unfolding Whole
@@ -79,7 +79,7 @@ module _ (s s' : Things) (f f' : Words) (m m' n : ℕ) (x : Slot) (h : Sound s f
       h.whole.account c,
       st.balanced c,
       ap (λ y. slot_uses f' y c) one_here,
-      sum_to_one 256 n (λ k. slot_uses f (slot_of s k) c) (λ k. slot_uses f' (slot_of s' k) c) low
+      sum_to_one names n (λ k. slot_uses f (slot_of s k) c) (λ k. slot_uses f' (slot_of s' k) c) low
           (λ k l p. ap (λ y. slot_uses f' y c) (laid_other s s' n x e k p) ∙ (one_kept k l p).same_uses c),
     );
     number = omega (arith, h.whole.number, num);
@@ -91,7 +91,7 @@ module _ (s s' : Things) (f f' : Words) (m m' n : ℕ) (x : Slot) (h : Sound s f
     | yes p ↦ rw (p, one_here) (sym (put_here n (thing x f') (shelf_of s f)))
     | no p ↦
         ap (λ y. thing y f') (laid_other s s' n x e k p)
-        ∙ elim (leb_tells 256 k) [ inl l ↦ past_thing s f f' k h.whole.size l.1 | inr l ↦ (one_kept k l.1 p).same_thing ]
+        ∙ elim (leb_tells names k) [ inl l ↦ past_thing s f f' k h.whole.size l.1 | inr l ↦ (one_kept k l.1 p).same_thing ]
         ∙ sym (put_other n k (thing x f') (shelf_of s f) p)
   ]
 
@@ -100,19 +100,19 @@ module _ (s s' : Things) (f f' : Words) (m m' n : ℕ) (x : Slot) (h : Sound s f
   unfolding Whole
   one_name = record { sound = record { whole = one_parts }; shelf = fun_ext one_shelf }
 
-module _ (s s' : Things) (f f' : Words) (m m' n j : ℕ) (x y : Slot) (h : Sound s f m) (low : n < 256) (low' : j < 256) (apart : n ≡ j → ⊥)
+module _ (s s' : Things) (f f' : Words) (m m' n j : ℕ) (x y : Option Kept) (h : Sound s f m) (low : n < names) (low' : j < names) (apart : n ≡ j → ⊥)
     (e : s'.slots ≡ set (set s.slots n x) j y)
     (st : Step (λ c. slot_uses f (slot_of s n) c + slot_uses f (slot_of s j) c) (λ c. slot_uses f' x c + slot_uses f' y c) f f')
     (ok : SlotStands f' x) (ok' : SlotStands f' y) (num : m' + held_in f ≡ m + held_in f') where
   between : Things
   between = record { slots = set s.slots n x }
 
-  two_kept : (k : ℕ) → k < 256 → (k ≡ n → ⊥) → (k ≡ j → ⊥) → SlotKept f f' (slot_of s k)
+  two_kept : (k : ℕ) → k < names → (k ≡ n → ⊥) → (k ≡ j → ⊥) → SlotKept f f' (slot_of s k)
   unfolding Whole
   two_kept k l d d' = slot_frame f f' (slot_of s k) (step_same _ _ (slot_uses f (slot_of s k)) f f' st
-      (λ c. omega (arith, h.whole.account c, at_three 256 k n j (λ i. slot_uses f (slot_of s i) c) l low low' d d' apart)))
+      (λ c. omega (arith, h.whole.account c, at_three names k n j (λ i. slot_uses f (slot_of s i) c) l low low' d d' apart)))
 
-  two_size : length s'.slots ≡ 256
+  two_size : length s'.slots ≡ names
   unfolding Whole between
   two_size = laid_size between s' j y e ∙ laid_size s between n x refl ∙ h.whole.size
 
@@ -145,7 +145,7 @@ module _ (s s' : Things) (f f' : Words) (m m' n j : ℕ) (x y : Slot) (h : Sound
       st.balanced c,
       ap (λ z. slot_uses f' z c) two_first,
       ap (λ z. slot_uses f' z c) two_second,
-      sum_to_two 256 n j (λ k. slot_uses f (slot_of s k) c) (λ k. slot_uses f' (slot_of s' k) c) low low' apart
+      sum_to_two names n j (λ k. slot_uses f (slot_of s k) c) (λ k. slot_uses f' (slot_of s' k) c) low low' apart
           (λ k l p q. ap (λ z. slot_uses f' z c) (two_other k p q) ∙ (two_kept k l p q).same_uses c),
     );
     number = omega (arith, h.whole.number, num);
@@ -160,7 +160,7 @@ module _ (s s' : Things) (f f' : Words) (m m' n j : ℕ) (x y : Slot) (h : Sound
           | yes p ↦ rw (p, two_first) (sym (put_here n (thing x f') (shelf_of s f)))
           | no p ↦
               ap (λ z. thing z f') (two_other k p q)
-              ∙ elim (leb_tells 256 k) [ inl l ↦ past_thing s f f' k h.whole.size l.1 | inr l ↦ (two_kept k l.1 p q).same_thing ]
+              ∙ elim (leb_tells names k) [ inl l ↦ past_thing s f f' k h.whole.size l.1 | inr l ↦ (two_kept k l.1 p q).same_thing ]
               ∙ sym (put_other n k (thing x f') (shelf_of s f) p)
         ]
         ∙ sym (put_other j k (thing y f') (put n (thing x f') (shelf_of s f)) q)

@@ -17,9 +17,6 @@ pub record Untouched (g g' : Ground) : Type 0 where
   pub blocks : (c : ℕ) → g'.block c ≡ g.block c
   pub many : g'.many ≡ g.many
 
-pub untouched : {g : Ground} → Untouched g g
-untouched = record { blocks = λ c. refl; many = refl }
-
 -- where it was only read
 pub read_untouched : {k : ℕ} {g g' : Ground} → Reading k (memory_of g) (memory_of g') → Untouched g g'
 read_untouched r = record { blocks = λ c. ap (λ (m : Memory). m.block c) r.is; many = ap (λ (m : Memory). m.many) r.is }

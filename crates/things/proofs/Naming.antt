@@ -1,132 +1,98 @@
 -- What a name gives, and what a call on it then comes to.
-use Rattle.std.proofs.Common.{◌≡◌, ℕ, suc, ◌+◌, ◌<◌, ◌≤◌, [], ◌∷◌, ◌++◌, length, get_or, take, drop, set, Ok, Err, arith}
+use Rattle.std.proofs.Common.{◌≡◌, ℕ, ◌+◌, ◌<◌, ◌≤◌, List, [], ◌∷◌, ◌++◌, length, take, drop, cond, nat_lt, Option, Some, None, Ok, Err, Result, arith}
 use Rattle.std.proofs.lemmas.Bool.Decides.{nat_tests}
 use Rattle.tree.specs.declared.top.Tree.{Tree}
-use Rattle.things.specs.declared.Op.TheVariants.{Row, Table, Free, Length, At, Set, Insert, Delete}
+use Rattle.things.specs.declared.Op.TheVariants.{Row, Free, Length, Insert}
 use Rattle.things.specs.declared.Answer.TheVariants.{Done, Word, No}
 use Rattle.things.specs.declared.reason.Reason.{Reason}
-use Rattle.things.specs.declared.state.Slot.{Slot}
-use Rattle.things.specs.declared.state.Slot.TheVariants as slot
+use Rattle.things.specs.declared.reason.Reason.TheVariants.{NoPlace}
+use Rattle.things.specs.declared.state.Kept.{Kept}
+use Rattle.things.specs.declared.state.Kept.TheVariants as kept
 use Rattle.things.specs.declared.state.Things.{Things}
-use Rattle.things.specs.Names.{found, row_at, table_at, vacant}
+use Rattle.things.specs.Names.{at_name, found, row_at, place_at, vacant}
 use Rattle.things.specs.Reasons.{refusal}
-use Rattle.things.specs.Things.{Nothing, ARow, ATable, out, put, does, is_nothing, is_row, words_of, pairs_of}
-use Rattle.things.specs.State.{Words, shelf_of, slot_of, words_in, pairs_in}
+use Rattle.things.specs.Things.{Nothing, ARow, Out, out, no, put, does, of_row, is_nothing, is_row, words_of, pairs_of}
+use Rattle.things.specs.State.{Words, names, shelf_of, slot_of, words_in, pairs_in}
 
--- a name at which something is found is one of the 256
-pub found_low : (n : ℕ) (s : Things) {x : Slot} → Ok x ≡ found n s → n < 256
-found_low n s h = grind (arith, nat_tests)
-
-pub row_low : (n : ℕ) (s : Things) {t : Tree} → Ok t ≡ row_at n s → n < 256
-row_low n s h = grind (arith, nat_tests)
-
-pub table_low : (n : ℕ) (s : Things) {t : Tree} → Ok t ≡ table_at n s → n < 256
-table_low n s h = grind (arith, nat_tests)
-
-pub vacant_low : (n : ℕ) (s : Things) {u : Unit {0}} → Ok u ≡ vacant n s → n < 256
-vacant_low n s h = grind (arith, nat_tests)
+-- a name at which something is had is one of the 256
+pub low : {A : Type 0} (k : Option Kept → Result A Reason) (n : ℕ) (s : Things) {a : A} → Ok a ≡ at_name k n s → n < names
+low k n s h = grind (arith, nat_tests)
 
 -- and what is there
-pub found_slot : (n : ℕ) (s : Things) {x : Slot} → Ok x ≡ found n s → slot_of s n ≡ x
+pub found_slot : (n : ℕ) (s : Things) {x : Kept} → Ok x ≡ found n s → slot_of s n ≡ Some x
 found_slot n s h = grind (arith, nat_tests)
 
-pub found_some : (n : ℕ) (s : Things) {x : Slot} → Ok x ≡ found n s → x ≡ slot.Nothing → ⊥
-found_some n s h e = grind (arith, nat_tests)
-
-pub row_slot : (n : ℕ) (s : Things) {t : Tree} → Ok t ≡ row_at n s → slot_of s n ≡ slot.Row t
+pub row_slot : (n : ℕ) (s : Things) {t : Tree} → Ok t ≡ row_at n s → slot_of s n ≡ Some (kept.Row t)
 row_slot n s h = grind (arith, nat_tests)
 
-pub table_slot : (n : ℕ) (s : Things) {t : Tree} → Ok t ≡ table_at n s → slot_of s n ≡ slot.Table t
-table_slot n s h = grind (arith, nat_tests)
-
-pub vacant_slot : (n : ℕ) (s : Things) {u : Unit {0}} → Ok u ≡ vacant n s → slot_of s n ≡ slot.Nothing
+pub vacant_slot : (n : ℕ) (s : Things) {u : Unit {0}} → Ok u ≡ vacant n s → slot_of s n ≡ None
 vacant_slot n s h = grind (arith, nat_tests)
 
--- what calls come to that are turned away at the name
-pub row_refused : (n : ℕ) (s : Things) (f : Words) {e : Reason} → Err e ≡ vacant n s → does (Row n) (shelf_of s f) ≡ out (refusal e) (shelf_of s f)
-unfolding does shelf_of is_nothing
-row_refused n s f h = grind (arith, nat_tests)
+-- a row with a place is a row, and has that place
+module _ (n i : ℕ) (s : Things) (f : Words) {t : Tree} where
+  pub place_row : Ok t ≡ place_at n i s f → Ok t ≡ row_at n s
+  place_row h = grind (arith, nat_tests)
 
-pub table_refused : (n : ℕ) (s : Things) (f : Words) {e : Reason} → Err e ≡ vacant n s → does (Table n) (shelf_of s f) ≡ out (refusal e) (shelf_of s f)
-unfolding does shelf_of is_nothing
-table_refused n s f h = grind (arith, nat_tests)
+  pub place_inside : Ok t ≡ place_at n i s f → i < length (words_in t f)
+  place_inside h = grind (arith, nat_tests)
 
-pub free_refused : (n : ℕ) (s : Things) (f : Words) {e : Reason} → Err e ≡ found n s → does (Free n) (shelf_of s f) ≡ out (refusal e) (shelf_of s f)
-unfolding does shelf_of is_nothing
-free_refused n s f h = grind (arith, nat_tests)
+  pub place_there : Ok t ≡ row_at n s → i < length (words_in t f) → Ok t ≡ place_at n i s f
+  place_there h l = grind (arith, nat_tests)
 
-pub length_refused : (n : ℕ) (s : Things) (f : Words) {e : Reason} → Err e ≡ found n s → does (Length n) (shelf_of s f) ≡ out (refusal e) (shelf_of s f)
-unfolding does shelf_of is_nothing
-length_refused n s f h = grind (arith, nat_tests)
+  pub place_past : Ok t ≡ row_at n s → length (words_in t f) ≤ i → Err NoPlace ≡ place_at n i s f
+  place_past h l = grind (arith, nat_tests)
 
-pub at_refused : (n i : ℕ) (s : Things) (f : Words) {e : Reason} → Err e ≡ row_at n s → does (At n i) (shelf_of s f) ≡ out (refusal e) (shelf_of s f)
-unfolding does shelf_of is_nothing is_row
-at_refused n i s f h = grind (arith, nat_tests)
+-- what a call on a row comes to: at the row, at a place of it, or turned away
+module _ (n : ℕ) (s : Things) (f : Words) (F : List ℕ → Out) where
+  pub off_row : {e : Reason} → Err e ≡ row_at n s → of_row n (shelf_of s f) F ≡ out (refusal e) (shelf_of s f)
+  unfolding shelf_of is_nothing is_row
+  off_row h = grind (arith, nat_tests)
 
-pub set_refused : (n i x : ℕ) (s : Things) (f : Words) {e : Reason} → Err e ≡ row_at n s → does (Set n i x) (shelf_of s f) ≡ out (refusal e) (shelf_of s f)
-unfolding does shelf_of is_nothing is_row
-set_refused n i x s f h = grind (arith, nat_tests)
+  pub on_place : (i : ℕ) {t : Tree} → Ok t ≡ place_at n i s f
+      → of_row n (shelf_of s f) (λ xs. cond (nat_lt i (length xs)) (F xs) (no 5 (shelf_of s f))) ≡ F (words_in t f)
+  unfolding shelf_of is_nothing is_row words_of
+  on_place i h = grind (arith, nat_tests)
 
-pub insert_refused : (n i x : ℕ) (s : Things) (f : Words) {e : Reason} → Err e ≡ row_at n s → does (Insert n i x) (shelf_of s f) ≡ out (refusal e) (shelf_of s f)
-unfolding does shelf_of is_nothing is_row
-insert_refused n i x s f h = grind (arith, nat_tests)
+  pub off_place : (i : ℕ) {e : Reason} → Err e ≡ place_at n i s f
+      → of_row n (shelf_of s f) (λ xs. cond (nat_lt i (length xs)) (F xs) (no 5 (shelf_of s f))) ≡ out (refusal e) (shelf_of s f)
+  unfolding shelf_of is_nothing is_row words_of
+  off_place i h = grind (arith, nat_tests)
 
-pub delete_refused : (n i : ℕ) (s : Things) (f : Words) {e : Reason} → Err e ≡ row_at n s → does (Delete n i) (shelf_of s f) ≡ out (refusal e) (shelf_of s f)
-unfolding does shelf_of is_nothing is_row
-delete_refused n i s f h = grind (arith, nat_tests)
+-- what other calls come to
+module _ (n : ℕ) (s : Things) (f : Words) where
+  pub row_refused : {e : Reason} → Err e ≡ vacant n s → does (Row n) (shelf_of s f) ≡ out (refusal e) (shelf_of s f)
+  unfolding does shelf_of is_nothing
+  row_refused h = grind (arith, nat_tests)
 
--- what calls come to that find what they are about
-pub row_is : (n : ℕ) (s : Things) (f : Words) {u : Unit {0}} → Ok u ≡ vacant n s → does (Row n) (shelf_of s f) ≡ out Done (put n (ARow []) (shelf_of s f))
-unfolding does shelf_of is_nothing
-row_is n s f h = grind (arith, nat_tests)
+  pub row_is : {u : Unit {0}} → Ok u ≡ vacant n s → does (Row n) (shelf_of s f) ≡ out Done (put n (ARow []) (shelf_of s f))
+  unfolding does shelf_of is_nothing
+  row_is h = grind (arith, nat_tests)
 
-pub table_is : (n : ℕ) (s : Things) (f : Words) {u : Unit {0}} → Ok u ≡ vacant n s → does (Table n) (shelf_of s f) ≡ out Done (put n (ATable []) (shelf_of s f))
-unfolding does shelf_of is_nothing
-table_is n s f h = grind (arith, nat_tests)
+  pub free_refused : {e : Reason} → Err e ≡ found n s → does (Free n) (shelf_of s f) ≡ out (refusal e) (shelf_of s f)
+  unfolding does shelf_of is_nothing
+  free_refused h = grind (arith, nat_tests)
 
-pub free_is : (n : ℕ) (s : Things) (f : Words) {x : Slot} → Ok x ≡ found n s → does (Free n) (shelf_of s f) ≡ out Done (put n Nothing (shelf_of s f))
-unfolding does shelf_of is_nothing
-free_is n s f h = grind (arith, nat_tests)
+  pub free_is : {x : Kept} → Ok x ≡ found n s → does (Free n) (shelf_of s f) ≡ out Done (put n Nothing (shelf_of s f))
+  unfolding does shelf_of is_nothing
+  free_is h = grind (arith, nat_tests)
 
-pub length_of_row : (n : ℕ) (s : Things) (f : Words) {t : Tree} → Ok (slot.Row t) ≡ found n s → does (Length n) (shelf_of s f) ≡ out (Word (length (words_in t f) + 0)) (shelf_of s f)
-unfolding does shelf_of is_nothing words_of pairs_of
-length_of_row n s f h = grind (arith, nat_tests)
+  pub length_refused : {e : Reason} → Err e ≡ found n s → does (Length n) (shelf_of s f) ≡ out (refusal e) (shelf_of s f)
+  unfolding does shelf_of is_nothing
+  length_refused h = grind (arith, nat_tests)
 
-pub length_of_table : (n : ℕ) (s : Things) (f : Words) {t : Tree} → Ok (slot.Table t) ≡ found n s → does (Length n) (shelf_of s f) ≡ out (Word (0 + length (pairs_in t f))) (shelf_of s f)
-unfolding does shelf_of is_nothing words_of pairs_of
-length_of_table n s f h = grind (arith, nat_tests)
+  pub length_of_row : {t : Tree} → Ok (kept.Row t) ≡ found n s → does (Length n) (shelf_of s f) ≡ out (Word (length (words_in t f) + 0)) (shelf_of s f)
+  unfolding does shelf_of is_nothing words_of pairs_of
+  length_of_row h = grind (arith, nat_tests)
 
-module _ (n : ℕ) (s : Things) (f : Words) (t : Tree) (h : Ok t ≡ row_at n s) where
-  pub at_is : (i : ℕ) → i < length (words_in t f) → does (At n i) (shelf_of s f) ≡ out (Word (get_or (words_in t f) i 0)) (shelf_of s f)
-  unfolding does shelf_of is_nothing is_row words_of
-  at_is i l = grind (arith, nat_tests)
+  pub length_of_table : {t : Tree} → Ok (kept.Table t) ≡ found n s → does (Length n) (shelf_of s f) ≡ out (Word (0 + length (pairs_in t f))) (shelf_of s f)
+  unfolding does shelf_of is_nothing words_of pairs_of
+  length_of_table h = grind (arith, nat_tests)
 
-  pub at_past : (i : ℕ) → length (words_in t f) ≤ i → does (At n i) (shelf_of s f) ≡ out (No 5) (shelf_of s f)
-  unfolding does shelf_of is_nothing is_row words_of
-  at_past i l = grind (arith, nat_tests)
-
-  pub set_is : (i x : ℕ) → i < length (words_in t f) → does (Set n i x) (shelf_of s f) ≡ out Done (put n (ARow (set (words_in t f) i x)) (shelf_of s f))
-  unfolding does shelf_of is_nothing is_row words_of
-  set_is i x l = grind (arith, nat_tests)
-
-  pub set_past : (i x : ℕ) → length (words_in t f) ≤ i → does (Set n i x) (shelf_of s f) ≡ out (No 5) (shelf_of s f)
-  unfolding does shelf_of is_nothing is_row words_of
-  set_past i x l = grind (arith, nat_tests)
-
-  pub insert_is : (i x : ℕ) → i ≤ length (words_in t f)
+  pub insert_is : (i x : ℕ) {t : Tree} → Ok t ≡ row_at n s → i ≤ length (words_in t f)
       → does (Insert n i x) (shelf_of s f) ≡ out Done (put n (ARow (take i (words_in t f) ++ (x ∷ drop i (words_in t f)))) (shelf_of s f))
   unfolding does shelf_of is_nothing is_row words_of
-  insert_is i x l = grind (arith, nat_tests)
+  insert_is i x h l = grind (arith, nat_tests)
 
-  pub insert_past : (i x : ℕ) → length (words_in t f) < i → does (Insert n i x) (shelf_of s f) ≡ out (No 5) (shelf_of s f)
+  pub insert_past : (i x : ℕ) {t : Tree} → Ok t ≡ row_at n s → length (words_in t f) < i → does (Insert n i x) (shelf_of s f) ≡ out (No 5) (shelf_of s f)
   unfolding does shelf_of is_nothing is_row words_of
-  insert_past i x l = grind (arith, nat_tests)
-
-  pub delete_is : (i : ℕ) → i < length (words_in t f)
-      → does (Delete n i) (shelf_of s f) ≡ out (Word (get_or (words_in t f) i 0)) (put n (ARow (take i (words_in t f) ++ drop (suc i) (words_in t f))) (shelf_of s f))
-  unfolding does shelf_of is_nothing is_row words_of
-  delete_is i l = grind (arith, nat_tests)
-
-  pub delete_past : (i : ℕ) → length (words_in t f) ≤ i → does (Delete n i) (shelf_of s f) ≡ out (No 5) (shelf_of s f)
-  unfolding does shelf_of is_nothing is_row words_of
-  delete_past i l = grind (arith, nat_tests)
+  insert_past i x h l = grind (arith, nat_tests)

@@ -1,42 +1,56 @@
 -- What lies under a name, or why it can't be had.
 -- Assumes nothing.
-use Rattle.std.specs.Prelude.{ℕ, cond, Ok, Err, Result, nat_le}
+use Rattle.std.specs.Prelude.{ℕ, cond, Option, Some, None, Ok, Err, Result, length, nat_le, nat_lt}
 use Rattle.tree.specs.declared.top.Tree.{Tree}
 use Rattle.things.specs.declared.reason.Reason.{Reason}
 use Rattle.things.specs.declared.reason.Reason.TheVariants as reason
-use Rattle.things.specs.declared.state.Slot.{Slot}
-use Rattle.things.specs.declared.state.Slot.TheVariants as slot
+use Rattle.things.specs.declared.state.Kept.{Kept}
+use Rattle.things.specs.declared.state.Kept.TheVariants as kept
 use Rattle.things.specs.declared.state.Things.{Things}
-use Rattle.things.specs.State.{slot_of}
+use Rattle.things.specs.State.{Words, words_in, names, slot_of}
 
-abbrev pub any_here : Slot → Result Slot Reason
-any_here slot.Nothing = Err reason.Absent
-any_here (slot.Row t) = Ok (slot.Row t)
-any_here (slot.Table t) = Ok (slot.Table t)
+abbrev pub any_here : Option Kept → Result Kept Reason
+any_here None = Err reason.Absent
+any_here (Some x) = Ok x
 
-abbrev pub row_here : Slot → Result Tree Reason
-row_here slot.Nothing = Err reason.Absent
-row_here (slot.Row t) = Ok t
-row_here (slot.Table t) = Err reason.OtherKind
+abbrev pub row_here : Option Kept → Result Tree Reason
+row_here None = Err reason.Absent
+row_here (Some (kept.Row t)) = Ok t
+row_here (Some (kept.Table t)) = Err reason.OtherKind
 
-abbrev pub table_here : Slot → Result Tree Reason
-table_here slot.Nothing = Err reason.Absent
-table_here (slot.Row t) = Err reason.OtherKind
-table_here (slot.Table t) = Ok t
+abbrev pub table_here : Option Kept → Result Tree Reason
+table_here None = Err reason.Absent
+table_here (Some (kept.Row t)) = Err reason.OtherKind
+table_here (Some (kept.Table t)) = Ok t
 
-abbrev pub none_here : Slot → Result (Unit {0}) Reason
-none_here slot.Nothing = Ok tt
-none_here (slot.Row t) = Err reason.Taken
-none_here (slot.Table t) = Err reason.Taken
+-- a row that has a place i
+abbrev pub place_here : ℕ → Words → Option Kept → Result Tree Reason
+place_here i f None = Err reason.Absent
+place_here i f (Some (kept.Row t)) = cond (nat_lt i (length (words_in t f))) (Ok t) (Err reason.NoPlace)
+place_here i f (Some (kept.Table t)) = Err reason.OtherKind
 
-abbrev pub found : ℕ → Things → Result Slot Reason
-found n s = cond (nat_le 256 n) (Err reason.NoName) (any_here (slot_of s n))
+abbrev pub none_here : Option Kept → Result (Unit {0}) Reason
+none_here None = Ok tt
+none_here (Some x) = Err reason.Taken
+
+-- what is under a name, as one of these takes it
+abbrev pub at_name : {A : Type 0} → (Option Kept → Result A Reason) → ℕ → Things → Result A Reason
+at_name f n s = cond (nat_le names n) (Err reason.NoName) (f (slot_of s n))
+
+abbrev pub slot_at : ℕ → Things → Result (Option Kept) Reason
+slot_at = at_name Ok
+
+abbrev pub found : ℕ → Things → Result Kept Reason
+found = at_name any_here
 
 abbrev pub row_at : ℕ → Things → Result Tree Reason
-row_at n s = cond (nat_le 256 n) (Err reason.NoName) (row_here (slot_of s n))
+row_at = at_name row_here
 
 abbrev pub table_at : ℕ → Things → Result Tree Reason
-table_at n s = cond (nat_le 256 n) (Err reason.NoName) (table_here (slot_of s n))
+table_at = at_name table_here
+
+abbrev pub place_at : ℕ → ℕ → Things → Words → Result Tree Reason
+place_at n i s f = at_name (place_here i f) n s
 
 abbrev pub vacant : ℕ → Things → Result (Unit {0}) Reason
-vacant n s = cond (nat_le 256 n) (Err reason.NoName) (none_here (slot_of s n))
+vacant = at_name none_here

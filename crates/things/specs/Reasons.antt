@@ -17,14 +17,16 @@ refusal reason.NoKey = No 7
 refusal reason.NotBuilt = No 9
 refusal reason.NoRoom = Full
 
+-- what is told of a call: what it came to, or why it was turned away
+abbrev pub told : {A : Type 0} → (A → Answer) → Result A Reason → Answer
+told f (Ok x) = f x
+told f (Err r) = refusal r
+
 abbrev pub told_done : Result (Unit {0}) Reason → Answer
-told_done (Ok u) = Done
-told_done (Err r) = refusal r
+told_done = told (λ u. Done)
 
 abbrev pub told_word : Result ℕ Reason → Answer
-told_word (Ok x) = Word x
-told_word (Err r) = refusal r
+told_word = told Word
 
 abbrev pub told_pair : Result (ℕ × ℕ) Reason → Answer
-told_pair (Ok p) = Pair p.0 p.1
-told_pair (Err r) = refusal r
+told_pair = told (λ p. Pair p.0 p.1)

@@ -3,11 +3,17 @@ ghost use Rattle.std.specs.Prelude.{◌≡◌, ℕ, ◌+◌, ◌<◌, length, ge
 ghost use Rattle.things.specs.Bridge.{memory_of};
 
 use crate::Blocks;
+use std::marker::PhantomData;
 use store::Store;
 
-pub struct Ours {}
+// It has no value: an impl of Store for B itself is refused, since Store is of another crate, and an adapter that holds a `&mut B` loses what is known of it.
+pub struct Ours<B> {
+    of: PhantomData<B>,
+}
 
-impl<B: Blocks> Store<B> for Ours {
+impl<B: Blocks> Store for Ours<B> {
+    type Memory = B;
+
     ghost memory = { λ b. memory_of (B.Blocks.as_ground b) };
 
     fn obtain(m: &mut B) -> Option<u32> {

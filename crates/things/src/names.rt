@@ -1,25 +1,25 @@
 // What lies under a name.
-ghost use Rattle.std.specs.Prelude.{◌≡◌, ℕ, ◌<◌, slice_set};
-ghost use Rattle.things.specs.Names.{found, row_at, table_at, vacant};
-ghost use Rattle.things.specs.State.{slot_of};
+ghost use Rattle.std.specs.Prelude.{◌≡◌, ◌<◌, Some, None, slice_set};
+ghost use Rattle.things.specs.Names.{found, row_at, slot_at, table_at, vacant};
+ghost use Rattle.things.specs.State.{names, slot_of};
 
 use crate::reason::Reason;
-use crate::state::{Slot, Things};
+use crate::state::{Kept, Things};
 use tree::top::Tree;
 
 impl Things {
+    // What is under n, or nothing, where n is a name.
+    fn slot(&self, n: u32) -> Result<Option<Kept>, Reason>
+        ensures { result ≡ slot_at n self.now }
+    {
+        self.slots.get(n as usize).copied().ok_or(Reason::NoName)
+    }
+
     // What is under n, where something is.
-    pub(crate) fn find(&self, n: u32) -> Result<Slot, Reason>
+    pub(crate) fn find(&self, n: u32) -> Result<Kept, Reason>
         ensures { result ≡ found n self.now }
     {
-        if n >= 256 {
-            return Err(Reason::NoName);
-        }
-        match self.slots[n as usize] {
-            Slot::Nothing => Err(Reason::Absent),
-            Slot::Row(t) => Ok(Slot::Row(t)),
-            Slot::Table(t) => Ok(Slot::Table(t)),
-        }
+        self.slot(n)?.ok_or(Reason::Absent)
     }
 
     // The row under n.
@@ -27,9 +27,8 @@ impl Things {
         ensures { result ≡ row_at n self.now }
     {
         match self.find(n)? {
-            Slot::Nothing => Err(Reason::Absent),
-            Slot::Row(t) => Ok(t),
-            Slot::Table(_) => Err(Reason::OtherKind),
+            Kept::Row(t) => Ok(t),
+            Kept::Table(_) => Err(Reason::OtherKind),
         }
     }
 
@@ -38,9 +37,8 @@ impl Things {
         ensures { result ≡ table_at n self.now }
     {
         match self.find(n)? {
-            Slot::Nothing => Err(Reason::Absent),
-            Slot::Row(_) => Err(Reason::OtherKind),
-            Slot::Table(t) => Ok(t),
+            Kept::Row(_) => Err(Reason::OtherKind),
+            Kept::Table(t) => Ok(t),
         }
     }
 
@@ -48,26 +46,26 @@ impl Things {
     pub(crate) fn find_vacant(&self, n: u32) -> Result<(), Reason>
         ensures { result ≡ vacant n self.now }
     {
-        if n >= 256 {
-            return Err(Reason::NoName);
-        }
-        match self.slots[n as usize] {
-            Slot::Nothing => Ok(()),
-            _ => Err(Reason::Taken),
+        match self.slot(n)? {
+            None => Ok(()),
+            Some(_) => Err(Reason::Taken),
         }
     }
 
-    pub(crate) fn peek(&self, n: u32) -> Slot
-        requires { n < 256 }
-        ensures { result ≡ slot_of self.now n }
+    // x is under n.
+    pub(crate) fn lay(&mut self, n: u32, x: Kept)
+        requires { n < names }
+        ensures { self.new.slots ≡ slice_set self.old.slots n (Some x) }
     {
-        self.slots[n as usize]
+        self.slots[n as usize] = Some(x);
     }
 
-    pub(crate) fn lay(&mut self, n: u32, x: Slot)
-        requires { n < 256 }
-        ensures { self.new.slots ≡ slice_set self.old.slots n x }
+    // Nothing is under n any more; what was is the result.
+    pub(crate) fn take(&mut self, n: u32) -> Option<Kept>
+        requires { n < names }
+        ensures was { result ≡ slot_of self.old n }
+        ensures slots { self.new.slots ≡ slice_set self.old.slots n None }
     {
-        self.slots[n as usize] = x;
+        self.slots[n as usize].take()
     }
 }

@@ -1,8 +1,11 @@
 // Why a call is turned away, and what is told of it.
-ghost use Rattle.std.specs.Prelude.{◌≡◌};
-ghost use Rattle.things.specs.Reasons.{refusal, told_done, told_pair, told_word};
+ghost use Rattle.std.specs.Prelude.{◌≡◌, MatchResult};
+ghost use Rattle.things.specs.declared.Answer.TheVariants.{Done, Word, Pair};
+ghost use Rattle.things.specs.declared.reason.Reason.TheVariants as reason;
+ghost use Rattle.things.specs.Reasons.{refusal};
 
 use crate::Answer;
+use store::gather::NoRoom;
 
 #[derive(Clone, Copy)]
 pub enum Reason {
@@ -17,12 +20,20 @@ pub enum Reason {
     NoRoom,
 }
 
-impl Reason {
-    // The one place where the numbers stand.
-    pub fn told(self) -> Answer
-        ensures { result ≡ refusal self }
-    {
-        match self {
+impl From<NoRoom> for Reason {
+    ghost from_gives = { λ _ r. r ≡ reason.NoRoom };
+
+    fn from(_: NoRoom) -> Reason {
+        Reason::NoRoom
+    }
+}
+
+// The one place where the numbers stand.
+impl From<Reason> for Answer {
+    ghost from_gives = { λ r a. a ≡ refusal r };
+
+    fn from(r: Reason) -> Answer {
+        match r {
             Reason::NoName => Answer::No(1),
             Reason::Taken => Answer::No(2),
             Reason::Absent => Answer::No(3),
@@ -36,29 +47,38 @@ impl Reason {
     }
 }
 
-pub fn done(r: Result<(), Reason>) -> Answer
-    ensures { result ≡ told_done r }
-{
-    match r {
-        Ok(_) => Answer::Done,
-        Err(e) => e.told(),
+impl From<()> for Answer {
+    ghost from_gives = { λ _ a. a ≡ Done };
+
+    fn from(_: ()) -> Answer {
+        Answer::Done
     }
 }
 
-pub fn word(r: Result<u64, Reason>) -> Answer
-    ensures { result ≡ told_word r }
-{
-    match r {
-        Ok(x) => Answer::Word(x),
-        Err(e) => e.told(),
+impl From<u64> for Answer {
+    ghost from_gives = { λ x a. a ≡ Word x };
+
+    fn from(x: u64) -> Answer {
+        Answer::Word(x)
     }
 }
 
-pub fn pair(r: Result<(u64, u64), Reason>) -> Answer
-    ensures { result ≡ told_pair r }
-{
-    match r {
-        Ok((k, x)) => Answer::Pair(k, x),
-        Err(e) => e.told(),
+impl From<(u64, u64)> for Answer {
+    ghost from_gives = { λ p a. a ≡ Pair p.0 p.1 };
+
+    fn from((k, x): (u64, u64)) -> Answer {
+        Answer::Pair(k, x)
+    }
+}
+
+// What a call came to, or why it was turned away.
+impl<T: Into<Answer>> From<Result<T, Reason>> for Answer {
+    ghost from_gives = { λ r a. MatchResult r (λ x. T.converts x a) (λ e. a ≡ refusal e) };
+
+    fn from(r: Result<T, Reason>) -> Answer {
+        match r {
+            Ok(x) => x.into(),
+            Err(e) => e.into(),
+        }
     }
 }

@@ -6,7 +6,8 @@ use Rattle.store.specs.Memory.{Stored}
 use Rattle.store.specs.Steps.{Mem, hit, Step}
 use Rattle.store.proofs.Stepping.{step_as, step_none}
 use Rattle.tree.specs.Tree.{total, flat, All, contents, uses, many, low, Sound, ChildOk, ChildrenOk, under}
-use Rattle.tree.specs.Paths.{Branch, none, left, right, Path}
+use Rattle.tree.specs.declared.path.Branch.{Branch}
+use Rattle.tree.specs.Paths.{none, left, right, Path}
 use Rattle.tree.specs.Rising.{Mended}
 use Rattle.tree.specs.Growing.{Loose, Growing, now, OnePage, TwoPages}
 use Rattle.tree.proofs.Each.{All-map, All-map₂}

@@ -1,8 +1,9 @@
 -- A page is read from the words of a block that it uses, and written to them.
-use Rattle.std.proofs.Common.{◌≡◌, ℕ, ◌+◌, ◌*◌, ◌<◌, ◌≤◌, List, ◌++◌, length, get_or, take, drop, sym, ap, ◌∙◌, subst, mul-le-mul_left, mul-one, arith, length-append, length-drop, length-take-le, get_or-take}
+use Rattle.std.proofs.Common.{◌≡◌, ℕ, ◌+◌, ◌*◌, ◌<◌, ◌≤◌, List, ◌++◌, length, get_or, take, drop, sym, ap, ◌∙◌, subst, mul-le-mul_left, mul-le-mul_right, mul-one, zero-add, arith, length-append, length-drop, length-take-le, get_or-take}
 use Rattle.std.proofs.lemmas.List.{drop-take, take-take, take-append-le}
+use lib.Seq.{paste}
 use Rattle.page.specs.Layout.{imaged}
-use Rattle.page.proofs.Images.{imaged_part}
+use Rattle.page.proofs.Images.{imaged_part, length_rows}
 use Rattle.store.specs.Memory.{Memory, Stored, asked, wrote}
 use Rattle.store.specs.Steps.{Ran, hit}
 use Rattle.store.proofs.Memories.{asked_then}
@@ -19,6 +20,10 @@ same_word k xs ys i l e = sym (get_or-take k xs i 0 l) ∙ ap (λ (zs : List ℕ
 
 pub same_part : (a k : ℕ) (xs ys : List ℕ) → take (a + k) xs ≡ take (a + k) ys → take k (drop a xs) ≡ take k (drop a ys)
 same_part a k xs ys e = sym (drop-take a k xs) ∙ ap (drop a) e ∙ drop-take a k ys
+
+-- written from the first word on
+pub paste_front : (n : ℕ) (d s : List ℕ) → paste d 0 s n ≡ take n s ++ drop n d
+paste_front n d s = ap (λ (k : ℕ). take n s ++ drop k d) (zero-add n)
 
 module _ {E : Type 0} (w : ℕ) (dec : List ℕ → E) where
   -- the words that are used are the same, so the page is
@@ -47,3 +52,25 @@ module _ {E : Type 0} (w : ℕ) (dec : List ℕ → E) where
         ran = subst (λ (x : Memory). Ran page_asks (hit b) (hit b) m x) (sym is) (ran_more _ _ _ _ _ (ran_wrote k b ws m s (omega (arith, long))) page_asks (omega arith));
         many = ap (λ (x : Memory). x.many) is;
       }
+
+-- a page of a level, as it lies in a block
+module _ {X : Type 0} (w : ℕ) (dec : List ℕ → X) (read : List ℕ → List X) (law : (ws : List ℕ) → read ws ≡ imaged w dec ws) where
+  pub first_word : (ws : List ℕ) → length (read ws) ≡ get_or ws 0 0
+  first_word ws = ap length (law ws) ∙ length_rows w dec (get_or ws 0 0) (drop 2 ws)
+
+  pub page_fits : (most : ℕ) → most * w ≤ 62 → (ws : List ℕ) → length (read ws) ≤ most → get_or ws 0 0 * w ≤ 62
+  page_fits most f ws l =
+      let k : get_or ws 0 0 ≤ most = omega (arith, first_word ws) in
+      omega (arith, mul-le-mul_right w k)
+
+  -- with the number of entries and their width as the code has them
+  pub read_fits : {n v : ℕ} (most : ℕ) → most * w ≤ 62 → (ws : List ℕ) → length (read ws) ≤ most → n ≡ get_or ws 0 0 → v ≡ w → n * v ≤ 62
+  read_fits most f ws l e q = rw (e, q) (page_fits most f ws l)
+
+  -- a block that reads as a page of the codec reads as one of the level
+  pub writing_page : {k b : ℕ} {xs : List X} {m m' : Memory} → Writing k (imaged w dec) b xs m m' → Writing k read b xs m m'
+  writing_page v = record {
+    wrote = record { words = v.wrote.words; long = v.wrote.long; reads = law v.wrote.words ∙ v.wrote.reads; is = v.wrote.is };
+    ran = v.ran;
+    many = v.many;
+  }

@@ -6,7 +6,7 @@ use Rattle.store.specs.Memory.{Stored}
 use Rattle.store.specs.Steps.{Mem}
 use Rattle.store.proofs.Stepping.{step_as}
 use Rattle.tree.specs.Tree.{total, flat, All, contents, uses, low, many, least, Root, Sound, ChildOk, ChildrenOk}
-use Rattle.tree.specs.Paths.{Branch}
+use Rattle.tree.specs.declared.path.Branch.{Branch}
 use Rattle.tree.specs.Rising.{Rising}
 use Rattle.tree.specs.Growing.{Loose, Growing}
 use Rattle.tree.specs.Leaves.{Begun, OneLeaf, TwoLeaves}

@@ -21,7 +21,7 @@ pub mod Places
 pub mod Counting
 pub mod Imaging
 pub mod Low
-pub mod Turns
 pub mod Keying
 pub mod KeyPaths
 pub mod Words
+pub mod Imaged

@@ -7,7 +7,8 @@ use Rattle.store.proofs.Sums.{hit_same}
 use Rattle.store.proofs.Stepping.{step_then, step_beside, step_same, step_as, step_none}
 use Rattle.tree.specs.Tree.{total, flat, contents, uses, blocks, Sound, contents_of, uses_of, under}
 use Rattle.tree.specs.Levels.{Risen}
-use Rattle.tree.specs.Paths.{Branch, left, right, Path, before, behind, around, Seen}
+use Rattle.tree.specs.declared.path.Branch.{Branch}
+use Rattle.tree.specs.Paths.{left, right, Path, before, behind, around, Seen}
 use Rattle.tree.specs.Rising.{Rising, Mend, Mended, Repage, Repaged}
 use Rattle.tree.proofs.Each.{flat_append, total_append}
 use Rattle.tree.proofs.Frames.{KeptAll, frame_all}

@@ -4,7 +4,8 @@ use Rattle.page.specs.Layout.{Layout}
 use Rattle.store.specs.Steps.{Mem, hit, held, Same, Step}
 use Rattle.store.proofs.Stepping.{step_beside, step_as, part_then, part_same}
 use Rattle.tree.specs.Tree.{uses, uses_of}
-use Rattle.tree.specs.Paths.{Branch, left, right, Path, before, behind}
+use Rattle.tree.specs.declared.path.Branch.{Branch}
+use Rattle.tree.specs.Paths.{left, right, Path, before, behind}
 use Rattle.tree.specs.Tall.{TallKept}
 use Rattle.tree.specs.Parting.{Top, owns, Joined, Parting, Grouped}
 use Rattle.tree.proofs.Paths.{node_uses, seen}

@@ -5,7 +5,8 @@ use Rattle.page.specs.declared.child.Child.{Child}
 use Rattle.page.specs.Layout.{Layout}
 use Rattle.store.specs.Steps.{Mem, hit}
 use Rattle.tree.specs.Tree.{total, flat, All, contents, uses, Sound, contents_of, uses_of, ChildOk}
-use Rattle.tree.specs.Paths.{Branch, none, left, right, Path, before, behind, around, Seen}
+use Rattle.tree.specs.declared.path.Branch.{Branch}
+use Rattle.tree.specs.Paths.{none, left, right, Path, before, behind, around, Seen}
 use Rattle.tree.proofs.Each.{flat_append, total_append, All-right}
 
 module _ {E : Type 0} (K : Layout E) where

@@ -5,7 +5,8 @@ use Rattle.page.specs.declared.child.Child.{Child}
 use Rattle.page.specs.Layout.{Layout, counts}
 use Rattle.store.specs.Steps.{Mem}
 use Rattle.tree.specs.Tree.{All, Sound, contents_of, ChildOk, ChildrenOk}
-use Rattle.tree.specs.Paths.{Branch, none, left, Path, before}
+use Rattle.tree.specs.declared.path.Branch.{Branch}
+use Rattle.tree.specs.Paths.{none, left, Path, before}
 use Rattle.tree.specs.Down.{Down, turn}
 use Rattle.tree.proofs.Each.{All-left}
 use Rattle.tree.proofs.Paths.{node_child}

@@ -3,7 +3,8 @@ use Rattle.std.proofs.Common.{◌≡◌, ℕ, suc, List, [], ◌∷◌, ◌++◌
 use Rattle.page.specs.Layout.{Layout}
 use Rattle.store.specs.Steps.{Mem}
 use Rattle.tree.specs.Tree.{flat, contents}
-use Rattle.tree.specs.Paths.{Branch, Path, before, behind}
+use Rattle.tree.specs.declared.path.Branch.{Branch}
+use Rattle.tree.specs.Paths.{Path, before, behind}
 use Rattle.tree.specs.Sides.{Rightmost, Leftmost}
 use Rattle.tree.proofs.Paths.{seen}
 

@@ -6,7 +6,8 @@ use Rattle.store.specs.Steps.{Mem, hit, held, Same, Step}
 use Rattle.store.proofs.Sums.{hit_same}
 use Rattle.store.proofs.Stepping.{step_then, step_beside, step_same, step_as, step_none, step_release}
 use Rattle.tree.specs.Tree.{total, All, uses, blocks, Sound, ChildOk, ChildrenOk}
-use Rattle.tree.specs.Paths.{Branch, none}
+use Rattle.tree.specs.declared.path.Branch.{Branch}
+use Rattle.tree.specs.Paths.{none}
 use Rattle.tree.specs.Taking.{rest, to_do, remaining, Pending, Waits, Giving}
 use Rattle.tree.proofs.Frames.{frame_all}
 use Rattle.tree.proofs.Writing.{some_long}

@@ -1,20 +1,20 @@
 -- The climb of an insertion as a loop has it: a row of branches, and one or two entries that came up.
 -- Assumes nothing.
-use Rattle.std.specs.Prelude.{ℕ, zero, suc, ◌≤◌, List, [], ◌∷◌, length, Some, None, Option, slice_index}
+use Rattle.std.specs.Prelude.{ℕ, ◌≤◌, List, [], ◌∷◌, length, Some, None, Option}
 use Rattle.page.specs.declared.child.Child.{Child}
 use Rattle.page.specs.Layout.{Layout}
 use Rattle.store.specs.Steps.{Mem}
-use Rattle.tree.specs.Paths.{Branch}
+use Rattle.tree.specs.declared.path.Branch.{Branch}
+use Rattle.tree.specs.declared.risen.Risen.{Risen}
 use Rattle.tree.specs.Growing.{Growing}
 
+-- one entry or two
 unfoldable pub one_or_two : Child → Option Child → List Child
 one_or_two k None = k ∷ []
 one_or_two k (Some j) = k ∷ j ∷ []
 
--- the first n branches of a path that was noted from the top down, nearest first
-unfoldable pub branches : List ℕ → List ℕ → ℕ → List Branch
-branches bs ps zero = []
-branches bs ps (suc n) = record { block = slice_index bs n; place = slice_index ps n } ∷ branches bs ps n
+abbrev pub risen_list : Risen → List Child
+risen_list r = one_or_two r.first r.second
 
 -- what the memory and the stock were, which tree it was, and what its contents shall be
 pub record Start (E : Type 0) : Type 0 where

@@ -4,7 +4,8 @@ use Rattle.std.specs.Prelude.{◌≡◌, ℕ, ◌+◌, ◌<◌, List, length, sl
 use Rattle.page.specs.Layout.{Layout}
 use Rattle.store.specs.Steps.{Mem}
 use Rattle.tree.specs.Tree.{contents, Sound}
-use Rattle.tree.specs.Paths.{Branch, none, Path, before}
+use Rattle.tree.specs.declared.path.Branch.{Branch}
+use Rattle.tree.specs.Paths.{none, Path, before}
 
 module _ {E : Type 0} (K : Layout E) where
   -- p is a place in the tree, and a the same place in the subtree b; with more 1 the end is a place too

@@ -6,7 +6,8 @@ use Rattle.page.specs.Layout.{Layout}
 use Rattle.store.specs.Memory.{Stored}
 use Rattle.store.specs.Steps.{Mem, hit, Step}
 use Rattle.tree.specs.Tree.{All, contents, many, low, Sound}
-use Rattle.tree.specs.Paths.{Branch, left, right}
+use Rattle.tree.specs.declared.path.Branch.{Branch}
+use Rattle.tree.specs.Paths.{left, right}
 use Rattle.tree.specs.Rising.{Rising}
 
 module _ {E : Type 0} (K : Layout E) where

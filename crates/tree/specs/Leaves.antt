@@ -5,7 +5,8 @@ use Rattle.page.specs.Layout.{Layout}
 use Rattle.store.specs.Memory.{Stored}
 use Rattle.store.specs.Steps.{Mem, hit, held, Step}
 use Rattle.tree.specs.Tree.{uses, Sound}
-use Rattle.tree.specs.Paths.{Branch, Path, before, behind}
+use Rattle.tree.specs.declared.path.Branch.{Branch}
+use Rattle.tree.specs.Paths.{Path, before, behind}
 
 module _ {E : Type 0} (K : Layout E) where
   -- the leaf b shall have the items ys, and the tree then xs

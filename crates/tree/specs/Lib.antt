@@ -1,3 +1,5 @@
+pub mod Reads
+pub mod Sizes
 pub mod Tree
 pub mod Levels
 pub mod Paths

@@ -4,7 +4,8 @@ use Rattle.std.specs.Prelude.{◌≡◌, ℕ, ◌+◌, ◌≤◌, List, ◌++◌
 use Rattle.page.specs.Layout.{Layout}
 use Rattle.store.specs.Steps.{Mem, hit, held, Step}
 use Rattle.tree.specs.Tree.{uses, contents_of, uses_of}
-use Rattle.tree.specs.Paths.{Branch, left, right, Path, before, behind}
+use Rattle.tree.specs.declared.path.Branch.{Branch}
+use Rattle.tree.specs.Paths.{left, right, Path, before, behind}
 use Rattle.tree.specs.Tall.{tall_contents, tall_uses, Tall}
 
 -- a tree: its height and its topmost block

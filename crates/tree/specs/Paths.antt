@@ -2,14 +2,10 @@
 -- Assumes nothing.
 use Rattle.std.specs.Prelude.{◌≡◌, ℕ, suc, ◌+◌, ◌<◌, List, [], ◌∷◌, ◌++◌, length, take, drop, slice_index_or}
 use Rattle.page.specs.declared.child.Child.{Child}
+use Rattle.tree.specs.declared.path.Branch.{Branch}
 use Rattle.page.specs.Layout.{Layout}
 use Rattle.store.specs.Steps.{Mem, hit}
 use Rattle.tree.specs.Tree.{contents, uses, Sound, contents_of, uses_of}
-
--- a node on the path, and which child the path takes
-pub record Branch : Type 0 where
-  pub block : ℕ
-  pub place : ℕ
 
 abbrev pub none : Child
 none = record { count = 0; block = 0; summary = 0 }

@@ -5,7 +5,8 @@ use Rattle.page.specs.declared.child.Child.{Child}
 use Rattle.page.specs.Layout.{Layout}
 use Rattle.store.specs.Steps.{Mem, hit, held, Step}
 use Rattle.tree.specs.Tree.{total, uses, contents_of, uses_of, blocks_of, ChildrenOk, under}
-use Rattle.tree.specs.Paths.{Branch, left, right, Path, before, behind}
+use Rattle.tree.specs.declared.path.Branch.{Branch}
+use Rattle.tree.specs.Paths.{left, right, Path, before, behind}
 
 module _ {E : Type 0} (K : Layout E) where
   -- the climb: f was the memory, with s in stock; now it's g, with t, and what was b is now ms; when all is put together the contents are xs

@@ -3,7 +3,8 @@
 use Rattle.std.specs.Prelude.{◌≡◌, List, [], ◌∷◌}
 use Rattle.page.specs.Layout.{Layout}
 use Rattle.store.specs.Steps.{Mem}
-use Rattle.tree.specs.Paths.{Branch, left, right}
+use Rattle.tree.specs.declared.path.Branch.{Branch}
+use Rattle.tree.specs.Paths.{left, right}
 
 module _ {E : Type 0} (K : Layout E) where
   -- paths along the right side, the left side

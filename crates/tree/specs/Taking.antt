@@ -6,7 +6,7 @@ use Rattle.page.specs.Layout.{Layout}
 use Rattle.store.specs.Memory.{Stored}
 use Rattle.store.specs.Steps.{Mem, hit, held, Step}
 use Rattle.tree.specs.Tree.{uses_of, blocks_of, ChildrenOk}
-use Rattle.tree.specs.Paths.{Branch}
+use Rattle.tree.specs.declared.path.Branch.{Branch}
 
 module _ {E : Type 0} (K : Layout E) where
   abbrev pub rest : Mem → Branch → List Child

@@ -1,7 +1,7 @@
 // Entries shared out between two neighbours.
-ghost use Rattle.std.specs.Prelude.{◌≡◌, ℕ, ◌+◌, ◌<◌, ◌≤◌, true, false, ◌++◌};
+ghost use Rattle.std.specs.Prelude.{◌≡◌, ℕ, ◌+◌, ◌<◌, ◌≤◌, ◌++◌, length, MatchOption};
+ghost use Rattle.page.specs.Balance.{Merged, Evened};
 ghost use Rattle.page.specs.Sizes.{block_room, page_limit};
-ghost use Rattle.page.specs.View.{entries};
 
 use super::Page;
 use crate::codec::Codec;
@@ -9,11 +9,12 @@ use crate::codec::Codec;
 impl<C: Codec> Page<C> {
     // Entries move between two neighbours until this one has `count`.
     pub fn share(&mut self, right: &mut Page<C>, count: usize)
-        requires fits { (count ≤ page_limit) × (self.old.len + right.old.len ≤ count + page_limit) }
-        requires there { count ≤ self.old.len + right.old.len }
-        ensures same { entries C.Codec.width C.Codec.decode self.new ++ entries C.Codec.width C.Codec.decode right.new ≡ entries C.Codec.width C.Codec.decode self.old ++ entries C.Codec.width C.Codec.decode right.old }
-        ensures left_len { self.new.len ≡ count }
-        ensures total { self.new.len + right.new.len ≡ self.old.len + right.old.len }
+        requires left { count ≤ page_limit }
+        requires right { length self.old + length right.old ≤ count + page_limit }
+        requires there { count ≤ length self.old + length right.old }
+        ensures same { self.new ++ right.new ≡ self.old ++ right.old }
+        ensures left_len { length self.new ≡ count }
+        ensures total { length self.new + length right.new ≡ length self.old + length right.old }
     {
         if self.len() < count {
             self.take_from_right(right, count - self.len());
@@ -22,21 +23,17 @@ impl<C: Codec> Page<C> {
         right.take_from_left(self, self.len() - count);
     }
 
-    // Has the entries of two neighbours in this one, or else evenly in both. Whether they are all in this one.
-    pub fn even_out(&mut self, right: &mut Page<C>, cap: usize) -> bool
+    // The entries of both come into this page, or else evenly into both: the right one, where there still is one.
+    pub fn even_out(&mut self, mut right: Page<C>, cap: usize) -> Option<Page<C>>
         requires { «cap» ≤ block_room }
-        ensures same { entries C.Codec.width C.Codec.decode self.new ++ entries C.Codec.width C.Codec.decode right.new ≡ entries C.Codec.width C.Codec.decode self.old ++ entries C.Codec.width C.Codec.decode right.old }
-        ensures total { self.new.len + right.new.len ≡ self.old.len + right.old.len }
-        ensures one { result ≡ true → (right.new.len ≡ 0) × (self.new.len ≤ «cap») }
-        ensures two { result ≡ false → («cap» < self.new.len + right.new.len) × (self.new.len ≤ right.new.len) × (right.new.len ≤ self.new.len + 1) }
+        ensures { MatchOption result (Merged «cap» (self.old ++ right) self.new) (λ r. Evened «cap» (self.old ++ right) self.new r) }
     {
         let total = self.len() + right.len();
         if total <= cap {
-            self.append(right);
-            right.truncate(0);
-            return true;
+            self.append(&right);
+            return None;
         }
-        self.share(right, total / 2);
-        false
+        self.share(&mut right, total / 2);
+        Some(right)
     }
 }

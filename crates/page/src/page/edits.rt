@@ -1,7 +1,6 @@
 // Reading and editing single entries of a page.
-ghost use Rattle.std.specs.Prelude.{◌≡◌, ℕ, ◌+◌, ◌-◌, ◌<◌, ◌≤◌, T, List, [], ◌∷◌, ◌++◌, take, slice_index_or, slice_set};
+ghost use Rattle.std.specs.Prelude.{◌≡◌, ℕ, ◌+◌, ◌-◌, ◌<◌, ◌≤◌, T, List, [], ◌∷◌, ◌++◌, take, slice_index_or, slice_set, length};
 ghost use Rattle.page.specs.Sizes.{page_limit};
-ghost use Rattle.page.specs.View.{entries};
 
 use super::Page;
 use crate::codec::Codec;
@@ -10,8 +9,8 @@ use std::marker::PhantomData;
 
 impl<C: Codec> Page<C> {
     pub fn new() -> Page<C>
-        ensures len { result.len ≡ 0 }
-        ensures after { entries C.Codec.width C.Codec.decode result ≡ [] }
+        ensures len { length result ≡ 0 }
+        ensures after { result ≡ [] }
     {
         Page {
             words: [0; WORDS],
@@ -21,14 +20,15 @@ impl<C: Codec> Page<C> {
     }
 
     pub fn len(&self) -> usize
-        ensures { (result ≡ self.now.len) × (result ≤ page_limit) }
+        ensures len { result ≡ length self.now }
+        ensures few { result ≤ page_limit }
     {
         self.len
     }
 
     pub fn get(&self, at: usize) -> C::Item
-        requires { at < self.now.len }
-        ensures value { (d : C.Item) → result ≡ slice_index_or (entries C.Codec.width C.Codec.decode self.now) at d }
+        requires { at < length self.now }
+        ensures value { (d : C.Item) → result ≡ slice_index_or self.now at d }
         ensures valid { T (C.Codec.valid result) }
     {
         C::read(&self.words, at * C::width())
@@ -36,29 +36,29 @@ impl<C: Codec> Page<C> {
 
     // One entry more, behind the others.
     pub fn push(&mut self, x: C::Item)
-        requires room { self.old.len < page_limit }
+        requires room { length self.old < page_limit }
         requires valid { T (C.Codec.valid x) }
-        ensures len { self.new.len ≡ self.old.len + 1 }
-        ensures after { entries C.Codec.width C.Codec.decode self.new ≡ entries C.Codec.width C.Codec.decode self.old ++ (x ∷ []) }
+        ensures len { length self.new ≡ length self.old + 1 }
+        ensures after { self.new ≡ self.old ++ (x ∷ []) }
     {
         C::write(x, &mut self.words, self.len * C::width());
         self.len += 1;
     }
 
     pub fn replace(&mut self, at: usize, x: C::Item)
-        requires there { at < self.old.len }
+        requires there { at < length self.old }
         requires valid { T (C.Codec.valid x) }
-        ensures len { self.new.len ≡ self.old.len }
-        ensures after { entries C.Codec.width C.Codec.decode self.new ≡ slice_set (entries C.Codec.width C.Codec.decode self.old) at x }
+        ensures len { length self.new ≡ length self.old }
+        ensures after { self.new ≡ slice_set self.old at x }
     {
         C::write(x, &mut self.words, at * C::width());
     }
 
     // The first `len` entries stay.
     pub fn truncate(&mut self, len: usize)
-        requires { len ≤ self.old.len }
-        ensures len { self.new.len ≡ len }
-        ensures after { entries C.Codec.width C.Codec.decode self.new ≡ take len (entries C.Codec.width C.Codec.decode self.old) }
+        requires { len ≤ length self.old }
+        ensures len { length self.new ≡ len }
+        ensures after { self.new ≡ take len self.old }
     {
         self.len = len;
     }

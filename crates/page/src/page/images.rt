@@ -1,8 +1,7 @@
 // A page and the words of a block: how many entries there are, a spare word, the entries.
-ghost use Rattle.std.specs.Prelude.{◌≡◌, ℕ, ◌*◌, ◌≤◌, slice_index, slice_set};
+ghost use Rattle.std.specs.Prelude.{◌≡◌, ℕ, ◌*◌, ◌≤◌, slice_index, slice_set, length};
 ghost use Rattle.page.specs.Layout.{imaged};
 ghost use Rattle.page.specs.Sizes.{block_room};
-ghost use Rattle.page.specs.View.{entries};
 
 use super::Page;
 use crate::codec::Codec;
@@ -27,8 +26,8 @@ impl<C: Codec> Page<C> {
     // The page that a block's words hold.
     pub fn unpack(image: &[u64; BLOCK]) -> Page<C>
         requires { slice_index image.now 0 * C.Codec.width ≤ block_room }
-        ensures len { result.len ≡ slice_index image.now 0 }
-        ensures after { entries C.Codec.width C.Codec.decode result ≡ imaged C.Codec.width C.Codec.decode image.now }
+        ensures len { length result ≡ slice_index image.now 0 }
+        ensures after { result ≡ imaged C.Codec.width C.Codec.decode image.now }
     {
         let mut page = Page::new();
         page.words[0..ROOM].copy_from_slice(&image[HEAD..BLOCK]);
@@ -38,10 +37,10 @@ impl<C: Codec> Page<C> {
 
     // The page, in a block's words.
     pub fn pack(&self, image: &mut [u64; BLOCK])
-        requires { self.now.len * C.Codec.width ≤ block_room }
-        ensures len { slice_index image.new 0 ≡ self.now.len }
+        requires { length self.now * C.Codec.width ≤ block_room }
+        ensures len { slice_index image.new 0 ≡ length self.now }
         ensures spare { slice_index image.new 1 ≡ 0 }
-        ensures after { imaged C.Codec.width C.Codec.decode image.new ≡ entries C.Codec.width C.Codec.decode self.now }
+        ensures after { imaged C.Codec.width C.Codec.decode image.new ≡ self.now }
     {
         image[HEAD..BLOCK].copy_from_slice(&self.words[0..ROOM]);
         write_head(image, self.len);

@@ -1,11 +1,10 @@
 // Calls on a row or a table.
-ghost use Rattle.std.specs.Prelude.{◌≡◌, ℕ, ◌+◌, ◌*◌, ◌<◌, ◌≤◌};
 ghost use Rattle.things.specs.Reasons.{told_done, told_word};
-ghost use Rattle.things.specs.State.{Ready, Served};
+ghost use Rattle.things.specs.State.{CanFree, CanServe, Served};
 
 use crate::bridge::Ours;
 use crate::reason::Reason;
-use crate::state::{Slot, Things};
+use crate::state::{Kept, Things};
 use crate::{Blocks, Op};
 use page::{Rows, Tables};
 use seek::size;
@@ -13,7 +12,7 @@ use seek::size;
 impl Things {
     // Nothing is under n.
     pub(crate) fn free<B: Blocks>(&mut self, b: &mut B, n: u32) -> Result<(), Reason>
-        requires { Ready (16384 + 128 * (B.Blocks.as_ground b.old).many) 0 self.old (B.Blocks.as_ground b.old) }
+        requires { CanFree self.old (B.Blocks.as_ground b.old) }
         ensures { Served (Op.Free n) self.old (B.Blocks.as_ground b.old) (told_done result) self.new (B.Blocks.as_ground b.new) }
     {
         self.find(n)?;
@@ -22,14 +21,13 @@ impl Things {
     }
 
     // How many words, or pairs.
-    pub(crate) fn length<B: Blocks>(&mut self, b: &mut B, n: u32) -> Result<u64, Reason>
-        requires { Ready 16384 64 self.old (B.Blocks.as_ground b.old) }
-        ensures { Served (Op.Length n) self.old (B.Blocks.as_ground b.old) (told_word result) self.new (B.Blocks.as_ground b.new) }
+    pub(crate) fn length<B: Blocks>(&self, b: &mut B, n: u32) -> Result<u64, Reason>
+        requires { CanServe self.now (B.Blocks.as_ground b.old) }
+        ensures { Served (Op.Length n) self.now (B.Blocks.as_ground b.old) (told_word result) self.now (B.Blocks.as_ground b.new) }
     {
         match self.find(n)? {
-            Slot::Nothing => Err(Reason::Absent),
-            Slot::Row(t) => Ok(size::length::<Rows, Ours, B>(b, t)),
-            Slot::Table(t) => Ok(size::length::<Tables, Ours, B>(b, t)),
+            Kept::Row(t) => Ok(size::length::<Rows, Ours<B>>(b, t)),
+            Kept::Table(t) => Ok(size::length::<Tables, Ours<B>>(b, t)),
         }
     }
 }

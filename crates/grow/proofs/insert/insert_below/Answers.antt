@@ -1,7 +1,8 @@
-use Rattle.std.proofs.Common.{arith}
+use Rattle.std.proofs.Common.{◌≡◌, ℕ, length, sym, ap, ◌∙◌, arith}
 use Rattle.std.proofs.lemmas.Result.{MatchResult-from_err}
 use Rattle.tree.proofs.Imaging.{few_entries}
-use Rattle.grow.proofs.Course.{Fit, low, shallow, few, reserve_asks, reserve_room, gave_up, leaf_takes, can_climb, asks_to_climb, can_crown, crown_asks, rest, done}
+use Rattle.grow.specs.Inserted.{blocks_needed}
+use Rattle.grow.proofs.Course.{Fit, low, shallow, reserve_takes, gave_up, leaf_takes, from_leaf, climbed, topped, rest_takes, done}
 use Rattle.grow.proofs.insert.insert_below.Given as given
 use Rattle.grow.proofs.insert.insert_below.Goals as goal
 
@@ -12,66 +13,66 @@ fit g = record {
   wide = g.met.K.Kind.wide;
 }
 
+-- by the length of the path, which the code asks for
+needs : (n full depth len : ℕ) → n ≡ blocks_needed full depth → depth ≡ len → n ≡ blocks_needed full len
+needs n full depth len e l = e ∙ ap (blocks_needed full) l
+
 pub reserve-requires : goal.reserve-requires
 reserve-requires g c =
     let p = c.requires in
-    let d = c.descend-reached.ensures in
-    let e = c.blocks_for.ensures in (
-      omega (arith, few _ (fit g) _ _ c.args.x _ p.lies p.tall p.asks _ _ d _ e),
-      (
-        reserve_asks _ (fit g) _ _ c.args.x _ p.lies p.tall p.asks _ _ d _ e,
-        reserve_room _ (fit g) _ _ c.args.x _ p.lies p.tall p.asks _ _ d _ e p.room,
-      ),
-    )
+    reserve_takes _ (fit g) _ _ c.args.x _ p.lies p.tall p.asks _ _ c.descend-reached.ensures _ (needs _ _ _ _ c.blocks_for-blocks.ensures c.len.ensures.len) p.room
 
 pub returns-in_err-stock : goal.returns-in_err-stock
 returns-in_err-stock g c =
     let p = c.requires in
-    MatchResult-from_err _ _ _ c.from_residual.ensures.0 (λ _. gave_up _ (fit g) _ _ c.args.x _ p.lies p.tall p.asks _ _ c.descend-reached.ensures _ c.blocks_for.ensures _ c.in_err-stock.ensures)
+    MatchResult-from_err _ _ _ c.from_residual.ensures.0
+    (λ _. gave_up _ (fit g) _ _ c.args.x _ p.lies p.tall p.asks _ _ c.descend-reached.ensures _ (needs _ _ _ _ c.blocks_for-blocks.ensures c.len.ensures.len) _ c.in_err-stock.ensures)
 
 pub insert_leaf-split-requires : goal.insert_leaf-split-requires
 insert_leaf-split-requires g c =
     let p = c.requires in
-    let k = leaf_takes _ (fit g) _ _ c.args.x _ p.lies p.tall p.asks _ _ c.descend-reached.ensures _ c.blocks_for.ensures _ _ c.in_ok-stock.ensures in
-    record { asks = k.asks; there = k.there; few = k.few; place = k.place; room = k.room; stocked = k.stocked; beside = k.beside }
+    leaf_takes _ (fit g) _ _ c.args.x _ p.lies p.tall p.asks _ _ c.descend-reached.ensures _ (needs _ _ _ _ c.blocks_for-blocks.ensures c.len.ensures.len) _ _ c.in_ok-stock.ensures
 
 pub climb-top-requires : goal.climb-top-requires
 climb-top-requires g c =
     let p = c.requires in
     let d = c.descend-reached.ensures in
-    let e = c.blocks_for.ensures in
-    let rv = c.in_ok-stock.ensures in
+    let e = needs _ _ _ _ c.blocks_for-blocks.ensures c.len.ensures.len in
+    let u = from_leaf _ (fit g) _ _ c.args.x _ p.lies p.tall p.asks _ _ d _ e _ _ c.in_ok-stock.ensures _ _ _ c.insert_leaf-split.ensures in
     record {
-      deep = omega (arith, shallow _ (fit g) _ _ c.args.x _ p.lies p.tall p.asks _ _ d _ e);
-      asks = asks_to_climb _ (fit g) _ _ c.args.x _ p.lies p.tall p.asks _ _ d _ e _ _ rv _ _ _ _ c.insert_leaf-split.ensures;
-      rises = can_climb _ (fit g) _ _ c.args.x _ p.lies p.tall p.asks _ _ d _ e _ _ rv _ _ _ _ c.insert_leaf-split.ensures;
+      asks = omega (arith, p.asks, u.spent.asks, shallow _ (fit g) _ c.args.at c.args.x _ p.lies p.tall p.asks _ _ d _ e);
+      rises = (_, u.rises);
     }
 
 pub new_root-tree-requires : goal.new_root-tree-requires
 new_root-tree-requires g c =
     let p = c.requires in
     let d = c.descend-reached.ensures in
-    let e = c.blocks_for.ensures in
-    let rv = c.in_ok-stock.ensures in
-    let cl = c.climb-top.ensures in
+    let e = needs _ _ _ _ c.blocks_for-blocks.ensures c.len.ensures.len in
+    let u = from_leaf _ (fit g) _ _ c.args.x _ p.lies p.tall p.asks _ _ d _ e _ _ c.in_ok-stock.ensures _ _ _ c.insert_leaf-split.ensures in
+    let v = climbed _ (fit g) _ _ c.args.x _ p.lies p.tall p.asks _ _ _ _ _ _ _ _ _ u c.climb-top.ensures.climbs c.climb-top.ensures.spent c.climb-top.ensures.fewer in
     record {
-      asks = crown_asks _ (fit g) _ _ c.args.x _ p.lies p.tall p.asks _ _ d _ e _ _ rv _ _ _ _ c.insert_leaf-split.ensures _ _ _ _ cl.climbs cl.spent;
-      low = omega (arith, low _ (fit g) _ _ c.args.x _ p.lies p.tall p.asks _ _ d _ e);
-      rises = can_crown _ (fit g) _ _ c.args.x _ p.lies p.tall p.asks _ _ d _ e _ _ rv _ _ _ _ c.insert_leaf-split.ensures _ _ _ _ cl.climbs cl.spent;
+      asks = omega (arith, p.asks, v.spent.asks, shallow _ (fit g) _ c.args.at c.args.x _ p.lies p.tall p.asks _ _ d _ e);
+      low = omega (arith, low _ (fit g) _ c.args.at c.args.x _ p.lies p.tall p.asks);
+      rises = (_, v.rises);
     }
 
 pub give_all-requires : goal.give_all-requires
 give_all-requires g c =
     let p = c.requires in
-    let cl = c.climb-top.ensures in
-    let cr = c.new_root-tree.ensures in
-    rest _ (fit g) _ _ c.args.x _ p.lies p.tall p.asks _ _ c.descend-reached.ensures _ c.blocks_for.ensures _ _ c.in_ok-stock.ensures _ _ _ _ c.insert_leaf-split.ensures
-    _ _ _ _ cl.climbs cl.spent _ _ _ cr.crowns cr.spent
+    let d = c.descend-reached.ensures in
+    let e = needs _ _ _ _ c.blocks_for-blocks.ensures c.len.ensures.len in
+    let u = from_leaf _ (fit g) _ _ c.args.x _ p.lies p.tall p.asks _ _ d _ e _ _ c.in_ok-stock.ensures _ _ _ c.insert_leaf-split.ensures in
+    let v = climbed _ (fit g) _ _ c.args.x _ p.lies p.tall p.asks _ _ _ _ _ _ _ _ _ u c.climb-top.ensures.climbs c.climb-top.ensures.spent c.climb-top.ensures.fewer in
+    let w = topped _ (fit g) _ _ c.args.x _ p.lies p.tall p.asks _ _ _ _ _ _ _ _ v c.new_root-tree.ensures.crowns c.new_root-tree.ensures.spent c.new_root-tree.ensures.fewer in
+    rest_takes _ (fit g) _ _ c.args.x _ p.lies p.tall p.asks _ _ _ _ w (omega (arith, shallow _ (fit g) _ c.args.at c.args.x _ p.lies p.tall p.asks _ _ d _ e))
 
 pub returns : goal.returns
 returns g c =
     let p = c.requires in
-    let cl = c.climb-top.ensures in
-    let cr = c.new_root-tree.ensures in
-    done _ (fit g) _ _ c.args.x _ p.lies p.tall p.asks _ _ c.descend-reached.ensures _ c.blocks_for.ensures _ _ c.in_ok-stock.ensures _ _ _ _ c.insert_leaf-split.ensures
-    _ _ _ _ cl.climbs cl.spent _ _ _ cr.crowns cr.spent _ c.give_all.ensures
+    let d = c.descend-reached.ensures in
+    let e = needs _ _ _ _ c.blocks_for-blocks.ensures c.len.ensures.len in
+    let u = from_leaf _ (fit g) _ _ c.args.x _ p.lies p.tall p.asks _ _ d _ e _ _ c.in_ok-stock.ensures _ _ _ c.insert_leaf-split.ensures in
+    let v = climbed _ (fit g) _ _ c.args.x _ p.lies p.tall p.asks _ _ _ _ _ _ _ _ _ u c.climb-top.ensures.climbs c.climb-top.ensures.spent c.climb-top.ensures.fewer in
+    let w = topped _ (fit g) _ _ c.args.x _ p.lies p.tall p.asks _ _ _ _ _ _ _ _ v c.new_root-tree.ensures.crowns c.new_root-tree.ensures.spent c.new_root-tree.ensures.fewer in
+    done _ (fit g) _ _ c.args.x _ p.lies p.tall p.asks _ _ _ _ w _ c.give_all.ensures (omega (arith, shallow _ (fit g) _ c.args.at c.args.x _ p.lies p.tall p.asks _ _ d _ e))

@@ -1,21 +1,15 @@
 use Rattle.std.proofs.Common.{arith}
 use Rattle.std.proofs.lemmas.List.{take_all}
-use Rattle.page.specs.View.{entries}
 use Rattle.page.proofs.Counts.{counts_none, counts_more}
-use Rattle.page.proofs.Pages.{length_entries}
 use Rattle.page.proofs.find.find.Goals as goal
 
-pub loop-i-init : goal.loop-i-init
-loop-i-init g c = (omega arith, omega (arith, counts_none))
+pub loop-child-init : goal.loop-child-init
+loop-child-init g c = omega (arith, counts_none)
 
-pub loop-i-preserved : goal.loop-i-preserved
-loop-i-preserved g c =
-    let n = length_entries g.K.Node.Codec.width g.K.Node.Codec.decode c.args.page.now in
-    let s = counts_more (entries g.K.Node.Codec.width g.K.Node.Codec.decode c.args.page.now) c.loop-i.i c.get-count.result (omega arith) c.get-count.ensures.value in
-    (omega arith, omega arith)
+pub loop-child-preserved : goal.loop-child-preserved
+loop-child-preserved g c = omega (arith, counts_more c.args.page.now c.loop-child.child c.get-count.result (omega arith) c.get-count.ensures.value)
 
 pub unreachable-requires : goal.unreachable-requires
 unreachable-requires g c =
-    let n = length_entries g.K.Node.Codec.width g.K.Node.Codec.decode c.args.page.now in
-    let t = rw (take_all c.loop-i.i (entries g.K.Node.Codec.width g.K.Node.Codec.decode c.args.page.now) (omega arith)) at c.loop-i.invariant.1 in
+    let t = rw (take_all c.loop-child.child c.args.page.now (omega arith)) at c.loop-child.invariant in
     omega arith

@@ -1,15 +1,12 @@
-use Rattle.std.proofs.Common.{◌≡◌, ◌+◌, ◌-◌, ◌<◌, ◌≤◌, take}
+use Rattle.std.proofs.Common.{◌≡◌, ◌+◌, ◌<◌, ◌≤◌, take}
 use Rattle.page.specs.Layout.{counts}
 use Rattle.store.specs.Memory.{asked}
 use Rattle.seek.specs.Descent.{more}
 use Rattle.seek.proofs.choose.choose_child.Given as goal
 
 abbrev pub invariant-loop-child : goal.invariant-loop-child
-invariant-loop-child g l =
-    (g.W.Store.memory l.m ≡ asked l.child (g.W.Store.memory l.initial.m))
-    × (counts (take l.child (g.K.Kind.layout.children ((g.W.Store.memory l.initial.m).block l.b))) + l.rest ≡ l.at)
-    × (l.child ≤ l.entries)
-    × (0 < l.child → more l.gap ≤ l.rest)
-
-abbrev pub decreases-loop-child : goal.decreases-loop-child
-decreases-loop-child g l = l.entries - l.child
+invariant-loop-child g l = record {
+  same : g.W.Store.memory l.m ≡ asked (l.child + 1) (g.W.Store.memory l.fn.m);
+  place : counts (take l.child (g.K.Kind.layout.children ((g.W.Store.memory l.fn.m).block l.b))) + l.rest ≡ l.at;
+  passed : 0 < l.child → more l.target ≤ l.rest;
+}

@@ -1,27 +1,8 @@
-use Rattle.std.proofs.Common.{ℕ, ◌+◌, ◌*◌, ◌≤◌, take, ap, ◌∙◌, mul-le-mul_right, arith}
+use Rattle.std.proofs.Common.{ℕ, ◌+◌, ◌*◌, take, ap, ◌∙◌, mul-le-mul_right, arith}
 use lib.Seq.{paste}
-use Rattle.page.proofs.Images.{few_entries}
 use Rattle.store.specs.Memory.{wrote}
-use Rattle.seek.proofs.Imaged.{entry_inside}
 use Rattle.seek.proofs.EntryWords.{writing_entry, take_pasted}
-use Rattle.seek.proofs.items.write_item.Given as given
 use Rattle.seek.proofs.items.write_item.Goals as goal
-
-room : (g : given.Over) → g.K.Kind.layout.leaf_cap ≤ 62
-room g = few_entries g.K.Kind.layout.leaf_cap g.K.Leaf.Codec.width 62 g.met.K.Leaf.Codec.some g.met.K.Kind.leafFits
-
-pub write-requires : goal.write-requires
-write-requires g c = omega (arith, g.met.K.Leaf.Codec.small)
-
-pub entry_number-requires : goal.entry_number-requires
-entry_number-requires g c = omega (arith, c.requires.inside, c.requires.few, room g)
-
-pub store_entry-requires : goal.store_entry-requires
-store_entry-requires g c = record {
-  asks = omega (arith, c.requires.asks, g.met.K.Leaf.Codec.small);
-  there = c.requires.there;
-  inside = entry_inside g.K.Leaf.Codec.width g.K.Kind.layout.leaf_cap c.entry_number.result g.met.K.Kind.leafFits (omega (arith, c.entry_number.ensures, c.requires.inside, c.requires.few));
-}
 
 pub returns : goal.returns
 returns g c =

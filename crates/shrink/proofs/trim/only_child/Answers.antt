@@ -4,4 +4,4 @@ use Rattle.tree.specs.Paths.{none}
 use Rattle.shrink.proofs.trim.only_child.Goals as goal
 
 pub overflow_cast-result : goal.overflow_cast-result
-overflow_cast-result g c = record { fits = omega (arith, c.requires.small none, ap (λ (k : Child). k.block) (c.get.ensures.value none)) }
+overflow_cast-result g c = record { fits = omega (arith, c.requires.small, ap (λ (k : Child). k.block) (c.get.ensures.value none)) }

@@ -1,12 +1,11 @@
-use Rattle.std.proofs.Common.{arith}
-use Rattle.store.proofs.Stocking.{giving_none, giving_more, giving_all}
+use Rattle.store.proofs.Stocking.{stocked_top, giving_more, giving_all}
 use Rattle.store.proofs.gather.give_all.Goals as goal
 
-pub loop-rest-init : goal.loop-rest-init
-loop-rest-init g c = giving_none _ _ c.requires.1.1
+pub give_back-requires-clause-there : goal.give_back-requires-clause-there
+give_back-requires-clause-there g c = stocked_top _ _ _ (rw c.in-Some.ensures.some at c.loop-f.invariant.stocked)
 
-pub loop-rest-preserved : goal.loop-rest-preserved
-loop-rest-preserved g c = giving_more _ _ _ _ _ _ _ c.loop-rest.invariant c.give_one.ensures.1.0 c.give_one.ensures.1.1
+pub loop-f-preserved : goal.loop-f-preserved
+loop-f-preserved g c = giving_more _ _ _ _ _ _ (rw c.in-Some.ensures.some at c.loop-f.invariant) c.give_back.ensures
 
 pub returns : goal.returns
-returns g c = giving_all _ _ _ _ (omega arith) c.loop-rest.invariant
+returns g c = giving_all _ _ _ (rw c.in_default.ensures.none at c.loop-f.invariant)

@@ -1,12 +1,11 @@
 use Rattle.std.proofs.Common.{arith}
-use Rattle.page.specs.View.{entries}
 use Rattle.page.proofs.Lists.{moved_down, moved_up}
 use Rattle.page.proofs.page.Page.share.Goals as goal
 
 pub returns-then-len-count : goal.returns-then-len-count
 returns-then-len-count g c =
     record {
-      same = moved_down (entries g.C.Codec.width g.C.Codec.decode c.args.self.now) (entries g.C.Codec.width g.C.Codec.decode c.args.right.now) _ c.take_from_right.ensures.left c.take_from_right.ensures.right;
+      same = moved_down c.args.self.now c.args.right.now _ c.take_from_right.ensures.left c.take_from_right.ensures.right;
       left_len = omega arith;
       total = omega arith;
     }
@@ -14,7 +13,7 @@ returns-then-len-count g c =
 pub returns : goal.returns
 returns g c =
     record {
-      same = moved_up (entries g.C.Codec.width g.C.Codec.decode c.args.self.now) (entries g.C.Codec.width g.C.Codec.decode c.args.right.now) _ c.take_from_left.ensures.left c.take_from_left.ensures.right;
+      same = moved_up c.args.self.now c.args.right.now _ c.take_from_left.ensures.left c.take_from_left.ensures.right;
       left_len = omega arith;
       total = omega arith;
     }

@@ -1,40 +1,22 @@
 use Rattle.std.proofs.Common.{refl, arith}
 use Rattle.std.proofs.lemmas.Result.{err_from_is_err_and}
-use Rattle.page.specs.Kinds.{row_layout}
-use Rattle.things.specs.State.{Ready}
 use Rattle.things.proofs.Grounds.{read_untouched}
 use Rattle.things.proofs.Rules.{served_after}
-use Rattle.things.proofs.Looking.{still_place}
-use Rattle.things.proofs.Serving.{ready_after, row_lies, set_served, set_no_place, set_turned}
+use Rattle.things.proofs.Serving.{placed, set_served, set_turned}
 use Rattle.things.proofs.state.Things.set.Goals as goal
 
 pub returns-in_err-t : goal.returns-in_err-t
 returns-in_err-t g c =
     let p = err_from_is_err_and c.from_residual.result c.from_residual.ensures.1 in
-    rw (p.1, p.2) (set_turned c.args.self.now _ c.args.n c.requires.sound c.args.i c.args.x tt c.in_err-t.ensures)
-
-pub length-requires : goal.length-requires
-length-requires g c = record { lies = row_lies c.args.n c.args.self.now _ c.requires.sound c.in_ok-t.ensures; asks = omega (arith, c.requires.enough) }
-
-pub returns-then-i-length : goal.returns-then-i-length
-returns-then-i-length g c =
-    set_no_place c.args.n c.args.self.now _ _ c.in_ok-t.t c.requires.sound c.in_ok-t.ensures
-    (read_untouched c.length.ensures.same) c.args.i c.args.x tt (omega (arith, c.length.ensures.value))
+    rw (p.1, p.2) (set_turned c.args.n c.args.i c.args.self.now _ _ c.requires.sound (read_untouched c.in_err-t.ensures.same) c.in_err-t.ensures.place c.args.x tt)
 
 pub set-requires : goal.set-requires
 set-requires g c =
-    let q : Ready 16319 64 c.args.self.now (g.B.Blocks.as_ground c.length.new.m) = ready_after c.requires c.length.ensures.same in
-    record {
-      lies = row_lies c.args.n c.args.self.now _ q.sound c.in_ok-t.ensures;
-      there = (still_place _ _ c.length.ensures.same row_layout c.in_ok-t.t c.args.i _ c.length.ensures.value (omega arith));
-      alike = λ xs ys. refl;
-      asks = omega (arith, q.enough);
-    }
+    let q = placed c.args.n c.args.i c.args.self.now c.requires c.in_ok-t.ensures.same c.in_ok-t.ensures.place in
+    record { lies = q.lies; there = q.inside; alike = λ xs ys. refl; asks = omega (arith, q.ready.enough) }
 
 pub returns : goal.returns
 returns g c =
-    let q : Ready 16319 64 c.args.self.now (g.B.Blocks.as_ground c.length.new.m) = ready_after c.requires c.length.ensures.same in
+    let q = placed c.args.n c.args.i c.args.self.now c.requires c.in_ok-t.ensures.same c.in_ok-t.ensures.place in
     let w = c.set.ensures in
-    served_after (read_untouched c.length.ensures.same)
-    (set_served c.args.n _ c.args.i c.args.x c.args.self.now _ _ c.in_ok-t.t tt q.sound c.in_ok-t.ensures
-    (still_place _ _ c.length.ensures.same row_layout c.in_ok-t.t c.args.i _ c.length.ensures.value (omega arith)) w.is w.ran w.stands)
+    served_after (read_untouched c.in_ok-t.ensures.same) (set_served c.args.n _ c.args.i c.args.x c.args.self.now _ _ c.in_ok-t.t tt q w.is w.ran w.stands)

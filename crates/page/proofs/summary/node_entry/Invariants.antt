@@ -1,8 +1,0 @@
-use Rattle.std.proofs.Common.{◌≡◌, T, take}
-use Rattle.page.specs.Layout.{entry_of}
-use Rattle.page.specs.View.{entries}
-use Rattle.page.proofs.summary.node_entry.Given as goal
-
-abbrev pub invariant-loop-i : goal.invariant-loop-i
-invariant-loop-i g l =
-    (l.all ≡ entry_of g.K.Kind.layout l.block (take l.i (entries g.K.Node.Codec.width g.K.Node.Codec.decode l.page))) × T (g.K.Node.Codec.valid l.all)

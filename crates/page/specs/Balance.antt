@@ -1,0 +1,14 @@
+-- Two pages whose entries were put together or evened out. Assumes nothing.
+use Rattle.std.specs.Prelude.{◌≡◌, ℕ, ◌+◌, ◌<◌, ◌≤◌, List, ◌++◌, length}
+
+-- one page has them all
+pub record Merged {X : Type 0} (most : ℕ) (all now : List X) : Type 0 where
+  pub same : now ≡ all
+  pub few : length now ≤ most
+
+-- they didn't fit on one: two have them, as evenly as can be
+pub record Evened {X : Type 0} (most : ℕ) (all left right : List X) : Type 0 where
+  pub same : left ++ right ≡ all
+  pub many : most < length left + length right
+  pub not_more : length left ≤ length right
+  pub even : length right ≤ length left + 1

@@ -9,7 +9,6 @@ use Rattle.store.specs.Stocked.{Stocked}
 use Rattle.store.specs.Reserve.{capacity, uses, Reserved, Undone, GivenAll}
 use Rattle.tree.specs.declared.top.Tree.{Tree}
 use Rattle.tree.specs.Trees.{Lies}
-use Rattle.tree.specs.Pages.{page_asks}
 use Rattle.seek.specs.declared.reached.Reached.{Reached}
 use Rattle.seek.specs.Asks.{descend_asks}
 use Rattle.tree.specs.Sizes.{top_level}
@@ -19,7 +18,7 @@ use Rattle.tree.proofs.Low.{height_low}
 use Rattle.seek.proofs.Readings.{reading_left, reading_many}
 use Rattle.grow.specs.Asks.{turn_asks, most_blocks, insert_asks, insert_undone}
 use Rattle.grow.specs.Settle.{Settled}
-use Rattle.grow.specs.Rises.{Spent, needed, Rises, CanRise, Climbs}
+use Rattle.grow.specs.Rises.{Spent, needed, Rises, Climbs}
 use Rattle.grow.specs.Crown.{Crowned, Crowns}
 use Rattle.grow.specs.Inserted.{blocks_needed, Inserted}
 use Rattle.grow.proofs.Climbing.{spent_none, spent_ran, spent_then, settled_went}

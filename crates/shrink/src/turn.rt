@@ -73,7 +73,11 @@ fn put_right<L: Tier, W: Store>(
 }
 
 // What stands above the node then, if it is full enough.
-pub fn turn<L: Tier, W: Store>(m: &mut W::Memory, node: Branch, risen: Option<Child>) -> Option<Child>
+pub fn turn<L: Tier, W: Store>(
+    m: &mut W::Memory,
+    node: Branch,
+    risen: Option<Child>,
+) -> Option<Child>
     requires { (s : Site L.Kind.Item) × Below L.Kind.Kind.layout L.Tier.at s node (W.Store.memory m.old) risen }
     ensures { (s : Site L.Kind.Item) → Below L.Kind.Kind.layout L.Tier.at s node (W.Store.memory m.old) risen → Climbing L.Kind.Kind.layout s.start (suc s.level) s.above (W.Store.memory m.new) result }
 {

@@ -129,7 +129,16 @@ module _ {E : Type 0} (K : Layout E) where
   length_inserted : (xs : List E) (i : ℕ) (x : E) → length (insert xs i x) ≡ length xs + 1
   length_inserted xs i x = omega (arith, length-append (take i xs) (x ∷ drop i xs), length-take i xs, length-drop i xs)
 
-  module _ (t : Tree) (at : ℕ) (x : E) (m : Memory) (lies : Lies K m t) (tall : 0 < t.height) where
+  -- an insertion into a tree that has a root, and what may be taken for granted of the kind of tree
+  pub record Insertion (t : Tree) (at : ℕ) (x : E) (m : Memory) : Type 0 where
+    pub lawful : Lawful K
+    pub thin : K.leaf_cap ≤ 62
+    pub wide : 20 ≤ K.node_cap
+    pub lies : Lies K m t
+    pub tall : 0 < t.height
+    pub ample : insert_asks ≤ m.left
+
+  module _ {t : Tree} {at : ℕ} {x : E} {m : Memory} (q : Insertion t at x m) where
     abbrev f : Mem
     f = m.block
 
@@ -137,10 +146,10 @@ module _ {E : Type 0} (K : Layout E) where
     H = t.height - 1
 
     top : HasRoot t.height f t.root
-    top = has_root t.height f t.root tall lies.stands
+    top = has_root t.height f t.root q.tall q.lies.stands
 
     pub once : (c : ℕ) → treeUses K H f t.root c ≤ held f c
-    once c = omega (arith, lies.once c, top.uses_is c)
+    once c = omega (arith, q.lies.once c, top.uses_is c)
 
     -- what the climb is to make
     abbrev pub start : Start E
@@ -152,7 +161,7 @@ module _ {E : Type 0} (K : Layout E) where
     pub is_height : t.height ≡ suc H
     is_height = top.height
 
-    module _ (b a : ℕ) (ws : List Branch) (d : Down K f H t.root at 1 0 b ws a) where
+    module _ {b a : ℕ} {ws : List Branch} (d : Down K f H t.root at 1 0 b ws a) where
       leaf : Stored f b
       unfolding Sound
       leaf = d.sound.0
@@ -171,7 +180,7 @@ module _ {E : Type 0} (K : Layout E) where
             ∙ ap₂ (λ (n : ℕ) (ys : List E). insert ys n x) (sym d.place) (sym (seen K f 0 b ws H t.root d.path).contents_seen);
       }
 
-      module _ (k n : ℕ) (s : List ℕ) (m₂ : Memory) (st : Stock k n m s m₂) where
+      module _ {k n : ℕ} {s : List ℕ} {m₂ : Memory} (st : Stock k n m s m₂) where
         same_leaf : m₂.block b ≡ f b
         same_leaf = st.ran.step.leaves b (let l : 0 < held f b = omega (arith, stored_held f b leaf) in l)
 
@@ -196,8 +205,8 @@ module _ {E : Type 0} (K : Layout E) where
         unfolding Sound
         leaf_most = d.sound.1
 
-        small : K.leaf_cap ≤ 62 → length start.goal < 2 ^ 64
-        small l = omega (arith, length_inserted (contents K H f t.root) at x, few_items l H f t.root top.root.sound once)
+        small : length start.goal < 2 ^ 64
+        small = omega (arith, length_inserted (contents K H f t.root) at x, few_items q.thin H f t.root top.root.sound once)
 
         from_start : (v : ℕ → ℕ) (m₃ : Memory) → Step (λ c. hit b c + uses s c) v m₂.block m₃.block → Step (λ c. hit b c + 0) v f m₃.block
         from_start v m₃ p = step_as _ _ _ _ f m₃.block (λ c. omega arith) (λ c. refl)
@@ -210,14 +219,14 @@ module _ {E : Type 0} (K : Layout E) where
               let e : length (K.items (f b)) ≡ K.leaf_cap = omega (arith, leaf_few, ap (λ (ws : List ℕ). length (K.items ws)) same_leaf) in
               omega (arith, full e, st.all)
 
-          leaf_went : K.leaf_cap ≤ 62 → Lawful K → (j : ℕ) (m₃ : Memory) (s₃ : List ℕ) (one : Child) (two : Option Child)
+          leaf_went : (j : ℕ) (m₃ : Memory) (s₃ : List ℕ) (one : Child) (two : Option Child)
               → Settled K.items (entry_of_leaf K) K.leaf_cap j b (insert (K.items (m₂.block b)) a x) m₂ s (record { first = one; second = two }) m₃ s₃ → Rises K start ws m₃ s₃ (record { first = one; second = two })
           unfolding one_or_two
-          leaf_went l lw j m₃ s₃ one None p = record {
+          leaf_went j m₃ s₃ one None p = record {
             grows = record {
               level = 0;
               block = b;
-              growing = subst (λ (q : Child). Growing K f (λ c. 0) H t.root start.goal 0 b ws m₃.block (uses s₃) (q ∷ [])) (sym (p.is ∙ ap (entry_of_leaf K b) items_are))
+              growing = subst (λ (y : Child). Growing K f (λ c. 0) H t.root start.goal 0 b ws m₃.block (uses s₃) (y ∷ [])) (sym (p.is ∙ ap (entry_of_leaf K b) items_are))
                   (grow_leaf K f (λ c. 0) H t.root start.goal b ws (insert (K.items (f b)) a x) begun m₃.block (uses s₃) (record {
                     few = omega (arith, p.few, ap length items_are);
                     reads = p.reads ∙ items_are;
@@ -227,18 +236,18 @@ module _ {E : Type 0} (K : Layout E) where
               few = omega arith;
             };
             stocked = p.stocked;
-            enough = λ q. absurd (omega arith);
-            small = small l;
+            enough = λ l. absurd (omega arith);
+            small = small;
           }
-          leaf_went l lw j m₃ s₃ one (Some other) p = record {
+          leaf_went j m₃ s₃ one (Some other) p = record {
             grows = record {
               level = 0;
               block = b;
-              growing = subst (λ (q : Child). Growing K f (λ c. 0) H t.root start.goal 0 b ws m₃.block (uses s₃) (q ∷ other ∷ [])) (sym (p.first_is ∙ ap (λ (ys : List E). entry_of_leaf K b (lower ys)) items_are))
-                  (subst (λ (q : Child). Growing K f (λ c. 0) H t.root start.goal 0 b ws m₃.block (uses s₃) (entry_of_leaf K b (lower (insert (K.items (f b)) a x)) ∷ q ∷ [])) (sym (p.second_is ∙ ap (λ (ys : List E). entry_of_leaf K other.block (upper ys)) items_are))
+              growing = subst (λ (y : Child). Growing K f (λ c. 0) H t.root start.goal 0 b ws m₃.block (uses s₃) (y ∷ other ∷ [])) (sym (p.first_is ∙ ap (λ (ys : List E). entry_of_leaf K b (lower ys)) items_are))
+                  (subst (λ (y : Child). Growing K f (λ c. 0) H t.root start.goal 0 b ws m₃.block (uses s₃) (entry_of_leaf K b (lower (insert (K.items (f b)) a x)) ∷ y ∷ [])) (sym (p.second_is ∙ ap (λ (ys : List E). entry_of_leaf K other.block (upper ys)) items_are))
                   (grow_leaves K f (λ c. 0) H t.root start.goal b ws (insert (K.items (f b)) a x) begun m₃.block (uses s₃) other.block (record {
                     too_many = omega (arith, p.full, ap length items_are);
-                    not_more = omega (arith, length_inserted (K.items (f b)) a x, leaf_most, lw.leaf_room);
+                    not_more = omega (arith, length_inserted (K.items (f b)) a x, leaf_most, q.lawful.leaf_room);
                     first = p.parted.first ∙ ap lower items_are;
                     second = p.parted.second ∙ ap upper items_are;
                     there = p.parted.there;
@@ -248,19 +257,19 @@ module _ {E : Type 0} (K : Layout E) where
               few = omega arith;
             };
             stocked = p.parted.stocked;
-            enough = λ q.
+            enough = λ l.
                 let e : length (K.items (f b)) ≡ K.leaf_cap = omega (arith, p.full, ap length items_are, length_inserted (K.items (f b)) a x, leaf_most) in
                 omega (arith, full e, st.all, p.parted.fewer);
-            small = small l;
+            small = small;
           }
 
-          pub leaf_rises : K.leaf_cap ≤ 62 → Lawful K → (j : ℕ) (m₃ : Memory) (s₃ : List ℕ) (r : Risen) → Settled K.items (entry_of_leaf K) K.leaf_cap j b (insert (K.items (m₂.block b)) a x) m₂ s r m₃ s₃ → Rises K start ws m₃ s₃ r
-          leaf_rises l lw j m₃ s₃ r = leaf_went l lw j m₃ s₃ r.first r.second
+          pub leaf_rises : (j : ℕ) (m₃ : Memory) (s₃ : List ℕ) (r : Risen) → Settled K.items (entry_of_leaf K) K.leaf_cap j b (insert (K.items (m₂.block b)) a x) m₂ s r m₃ s₃ → Rises K start ws m₃ s₃ r
+          leaf_rises j m₃ s₃ r = leaf_went j m₃ s₃ r.first r.second
 
     -- the end
-    module _ (m₅ : Memory) (s₅ : List ℕ) (t' : Tree) (v : Crowned K start m₅ s₅ t') (k : ℕ) (sp : Spent k m m₅) where
+    module _ {m₅ : Memory} {s₅ : List ℕ} {t' : Tree} (v : Crowned K start m₅ s₅ t') {k : ℕ} (sp : Spent k m m₅) where
       pub rest_few : length s₅ ≤ m₅.many
-      rest_few = reserve_few s₅ m₅ v.stocked (omega (arith, sp.number, lies.number))
+      rest_few = reserve_few s₅ m₅ v.stocked (omega (arith, sp.number, q.lies.number))
 
       pub finished : (m₆ : Memory) → GivenAll m₅ s₅ m₆ → k + length s₅ ≤ insert_asks → Inserted K at x t m t' m₆
       finished m₆ ga l = record {

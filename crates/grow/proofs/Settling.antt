@@ -1,21 +1,19 @@
 -- A page goes to its block, or in two halves to it and to a block of the reserve.
-use Rattle.std.proofs.Common.{◌≡◌, ℕ, ◌+◌, ◌<◌, ◌≤◌, List, ◌∷◌, length, Some, None, Option, sym, refl, ap, ◌∙◌, subst, arith}
+use Rattle.std.proofs.Common.{◌≡◌, ℕ, ◌+◌, ◌<◌, ◌≤◌, List, ◌∷◌, length, sym, refl, ap, ◌∙◌, subst, arith}
 use Rattle.page.specs.declared.child.Child.{Child}
-use Rattle.store.specs.Memory.{Memory, Stored, asked}
-use Rattle.store.specs.Steps.{Mem, Ran, hit, held}
+use Rattle.store.specs.Memory.{Memory, Stored}
+use Rattle.store.specs.Steps.{Mem, hit, held}
 use Rattle.store.specs.Stocked.{Stocked}
 use Rattle.store.specs.Reserve.{uses}
 use Rattle.store.proofs.Sums.{hit_same, hit_other}
 use Rattle.store.proofs.Stepping.{at_other}
 use Rattle.store.proofs.Memories.{by_place}
-use Rattle.store.proofs.Running.{stored_held, ran_asked, ran_then, ran_as, ran_beside, ran_more}
+use Rattle.store.proofs.Running.{stored_held, ran_then, ran_as, ran_beside}
 use Rattle.store.proofs.Stocking.{stocked_beside, stocked_part}
-use Rattle.tree.specs.Pages.{page_asks, Reading, Writing}
-use Rattle.tree.specs.declared.risen.Risen.{Risen}
+use Rattle.tree.specs.Pages.{page_asks, Writing}
 use Rattle.tree.proofs.Writing.{stored_after, wrote_reads}
-use Rattle.seek.proofs.Readings.{reading_ran}
 use Rattle.grow.specs.Asks.{settle_asks}
-use Rattle.grow.specs.Settle.{lower, upper, Parted, Filled, InOne, InTwo, Settled}
+use Rattle.grow.specs.Settle.{lower, upper, Parted, Filled, InTwo}
 
 -- a block that is held and in no reserve stands beside the reserve
 pub beside_fits : (b : ℕ) (u : ℕ → ℕ) (f : Mem) → Stored f b → u b ≡ 0 → Stocked u f → (c : ℕ) → hit b c + u c ≤ held f c

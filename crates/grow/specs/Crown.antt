@@ -1,7 +1,6 @@
 -- The end of an insertion's climb: the page that came up is the root, or a new root stands above two.
 -- Assumes nothing.
 use Rattle.std.specs.Prelude.{◌≡◌, ℕ, suc, List, []}
-use Rattle.page.specs.declared.child.Child.{Child}
 use Rattle.page.specs.Layout.{Layout}
 use Rattle.store.specs.Memory.{Memory}
 use Rattle.store.specs.Stocked.{Stocked}

@@ -1,4 +1,3 @@
-use Rattle.std.proofs.Common.{arith}
 use Rattle.grow.proofs.Climbing.{ready, climbing_more}
 use Rattle.grow.proofs.climb.climb.Goals as goal
 

@@ -1,4 +1,4 @@
-use Rattle.std.proofs.Common.{◌/◌, length, take, drop, sym, ap, ◌∙◌, arith, take-append-drop}
+use Rattle.std.proofs.Common.{◌/◌, length, ap, arith, take-append-drop}
 use Rattle.grow.proofs.Settling.{in_both}
 use Rattle.grow.specs.Settle.{lower, upper}
 use Rattle.grow.proofs.settle.settle.Goals as goal

@@ -1,9 +1,8 @@
 -- An insertion from its beginning to its end.
-use Rattle.std.proofs.Common.{◌≡◌, ℕ, zero, suc, ◌+◌, ◌-◌, ◌*◌, ◌^◌, ◌<◌, ◌≤◌, eqb, ltb, List, [], ◌∷◌, length, take, drop, Some, None, Option, sym, refl, ap, ◌∙◌, subst, ap₂, mul-le-mul, arith, length-append, length-drop, length-take}
+use Rattle.std.proofs.Common.{◌≡◌, ℕ, zero, suc, ◌+◌, ◌-◌, ◌*◌, ◌^◌, ◌<◌, ◌≤◌, eqb, ltb, List, [], ◌∷◌, length, take, drop, sym, refl, ap, ◌∙◌, subst, ap₂, mul-le-mul, arith, length-append, length-drop, length-take}
 use native.Mathlib.Decide.{ℕ_discrete}
 use Rattle.std.proofs.lemmas.Bool.{eq-eqb, ne_eqb, ltb-true, ltb-false, cond_both}
 use Rattle.std.specs.List.{insert}
-use Rattle.page.specs.declared.child.Child.{Child}
 use Rattle.page.specs.Layout.{Layout, Lawful, entry_of_leaf}
 use Rattle.store.specs.Memory.{Memory, Stored}
 use Rattle.store.specs.Steps.{Mem, Step, Ran, hit, held}
@@ -20,9 +19,8 @@ use Rattle.tree.specs.declared.path.Branch.{Branch}
 use Rattle.tree.specs.Paths.{before, behind}
 use Rattle.tree.specs.Down.{Down}
 use Rattle.tree.specs.Leaves.{Begun}
-use Rattle.tree.specs.Climb.{one_or_two, Start}
+use Rattle.tree.specs.Climb.{Start}
 use Rattle.tree.specs.declared.risen.Risen.{Risen}
-use Rattle.tree.specs.Growing.{Growing}
 use Rattle.tree.specs.Pages.{Reading}
 use Rattle.tree.proofs.Bounds.{most}
 use Rattle.tree.proofs.Frames.{frame}
@@ -33,8 +31,9 @@ use Rattle.seek.specs.Descent.{nodes_full, full_run}
 use Rattle.tree.proofs.Low.{blocks_low}
 use Rattle.seek.proofs.Readings.{reading_left, reading_ran}
 use Rattle.grow.specs.Asks.{insert_asks}
-use Rattle.grow.specs.Settle.{lower, upper, Settled}
+use Rattle.grow.specs.Settle.{Settled}
 use Rattle.grow.specs.Rises.{Spent, needed, Rises}
+use Rattle.grow.proofs.Climbing.{rises_on}
 use Rattle.grow.specs.Crown.{Crowned}
 use Rattle.grow.specs.Inserted.{blocks_needed, Inserted}
 
@@ -219,52 +218,22 @@ module _ {E : Type 0} (K : Layout E) where
               let e : length (K.items (f b)) ≡ K.leaf_cap = omega (arith, leaf_few, ap (λ (ws : List ℕ). length (K.items ws)) same_leaf) in
               omega (arith, full e, st.all)
 
-          leaf_went : (j : ℕ) (m₃ : Memory) (s₃ : List ℕ) (one : Child) (two : Option Child)
-              → Settled K.items (entry_of_leaf K) K.leaf_cap j b (insert (K.items (m₂.block b)) a x) m₂ s (record { first = one; second = two }) m₃ s₃ → Rises K start ws m₃ s₃ (record { first = one; second = two })
-          unfolding one_or_two
-          leaf_went j m₃ s₃ one None p = record {
-            grows = record {
-              level = 0;
-              block = b;
-              growing = subst (λ (y : Child). Growing K f (λ c. 0) H t.root start.goal 0 b ws m₃.block (uses s₃) (y ∷ [])) (sym (p.is ∙ ap (entry_of_leaf K b) items_are))
-                  (grow_leaf K f (λ c. 0) H t.root start.goal b ws (insert (K.items (f b)) a x) begun m₃.block (uses s₃) (record {
-                    few = omega (arith, p.few, ap length items_are);
-                    reads = p.reads ∙ items_are;
-                    there = p.there;
-                    writes = from_start _ m₃ p.ran.step;
-                  }) (omega (arith, length_inserted (K.items (f b)) a x)));
-              few = omega arith;
-            };
-            stocked = p.stocked;
-            enough = λ l. absurd (omega arith);
-            small = small;
-          }
-          leaf_went j m₃ s₃ one (Some other) p = record {
-            grows = record {
-              level = 0;
-              block = b;
-              growing = subst (λ (y : Child). Growing K f (λ c. 0) H t.root start.goal 0 b ws m₃.block (uses s₃) (y ∷ other ∷ [])) (sym (p.first_is ∙ ap (λ (ys : List E). entry_of_leaf K b (lower ys)) items_are))
-                  (subst (λ (y : Child). Growing K f (λ c. 0) H t.root start.goal 0 b ws m₃.block (uses s₃) (entry_of_leaf K b (lower (insert (K.items (f b)) a x)) ∷ y ∷ [])) (sym (p.second_is ∙ ap (λ (ys : List E). entry_of_leaf K other.block (upper ys)) items_are))
-                  (grow_leaves K f (λ c. 0) H t.root start.goal b ws (insert (K.items (f b)) a x) begun m₃.block (uses s₃) other.block (record {
-                    too_many = omega (arith, p.full, ap length items_are);
-                    not_more = omega (arith, length_inserted (K.items (f b)) a x, leaf_most, q.lawful.leaf_room);
-                    first = p.parted.first ∙ ap lower items_are;
-                    second = p.parted.second ∙ ap upper items_are;
-                    there = p.parted.there;
-                    there' = p.parted.there';
-                    writes = from_start _ m₃ p.parted.ran.step;
-                  })));
-              few = omega arith;
-            };
-            stocked = p.parted.stocked;
-            enough = λ l.
-                let e : length (K.items (f b)) ≡ K.leaf_cap = omega (arith, p.full, ap length items_are, length_inserted (K.items (f b)) a x, leaf_most) in
-                omega (arith, full e, st.all, p.parted.fewer);
-            small = small;
-          }
-
           pub leaf_rises : (j : ℕ) (m₃ : Memory) (s₃ : List ℕ) (r : Risen) → Settled K.items (entry_of_leaf K) K.leaf_cap j b (insert (K.items (m₂.block b)) a x) m₂ s r m₃ s₃ → Rises K start ws m₃ s₃ r
-          leaf_rises j m₃ s₃ r = leaf_went j m₃ s₃ r.first r.second
+          leaf_rises j m₃ s₃ r p =
+              let n = length_inserted (K.items (f b)) a x in
+              rises_on K start ws 0 b small K.items (entry_of_leaf K) K.leaf_cap j (insert (K.items (f b)) a x) m₂ s m₃ s₃
+              (λ l. let e : length (K.items (f b)) ≡ K.leaf_cap = omega (arith, l, n, leaf_most) in omega (arith, full e, st.all))
+              (λ o y. grow_leaf K f (λ c. 0) H t.root start.goal b ws (insert (K.items (f b)) a x) begun m₃.block (uses s₃) (record { few = y.few; reads = y.reads; there = y.there; writes = from_start _ m₃ y.ran.step }) (omega (arith, n)))
+              (λ d l y. grow_leaves K f (λ c. 0) H t.root start.goal b ws (insert (K.items (f b)) a x) begun m₃.block (uses s₃) d (record {
+                too_many = l;
+                not_more = omega (arith, n, leaf_most, q.lawful.leaf_room);
+                first = y.first;
+                second = y.second;
+                there = y.there;
+                there' = y.there';
+                writes = from_start _ m₃ y.ran.step;
+              }))
+              r (subst (λ (xs : List E). Settled K.items (entry_of_leaf K) K.leaf_cap j b xs m₂ s r m₃ s₃) items_are p)
 
     -- the end
     module _ {m₅ : Memory} {s₅ : List ℕ} {t' : Tree} (v : Crowned K start m₅ s₅ t') {k : ℕ} (sp : Spent k m m₅) where

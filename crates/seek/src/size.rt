@@ -29,6 +29,7 @@ fn total<K: Kind, W: Store<M>, M>(m: &mut M, b: u32) -> u64
     sum
 }
 
+#[tactic(auto, unfolding(tree::specs::Tall::tall_contents, tree::specs::Tall::Tall, tree::specs::Tree::Sound))]
 pub fn length<K: Kind, W: Store<M>, M>(m: &mut M, t: Tree) -> u64
     requires lies { Lies K.Kind.layout (W.Store.memory m.old) t }
     requires asks { length_asks ≤ (W.Store.memory m.old).left }

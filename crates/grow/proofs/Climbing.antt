@@ -1,5 +1,5 @@
 -- A turn of the climb: a node takes what came up.
-use Rattle.std.proofs.Common.{◌≡◌, ℕ, suc, ◌+◌, ◌-◌, ◌*◌, ◌<◌, ◌≤◌, Bool, T, List, [], ◌∷◌, ◌++◌, length, take, drop, set, Some, None, Option, sym, refl, ap, ◌∙◌, subst, add-one, arith, length-append, length-drop, take-append-drop, length-take}
+use Rattle.std.proofs.Common.{◌≡◌, ℕ, suc, ◌+◌, ◌-◌, ◌*◌, ◌^◌, ◌<◌, ◌≤◌, Bool, T, List, [], ◌∷◌, ◌++◌, length, take, drop, set, Some, None, Option, sym, refl, ap, ◌∙◌, subst, add-one, arith, length-append, length-drop, take-append-drop, length-take}
 use lib.Seq.{set_split}
 use Rattle.std.proofs.lemmas.Bool.{eq-eqb}
 use Rattle.page.specs.declared.child.Child.{Child}
@@ -23,7 +23,7 @@ use Rattle.tree.proofs.Paths.{seen}
 use Rattle.tree.proofs.Mending.{rising_page}
 use Rattle.tree.proofs.Grows.{grow_one, grow_two}
 use Rattle.grow.specs.Asks.{turn_asks}
-use Rattle.grow.specs.Settle.{lower, upper, Settled}
+use Rattle.grow.specs.Settle.{lower, upper, Parted, InOne, Settled}
 use Rattle.grow.specs.Rises.{placed, Valid, Spent, needed, Ready, Rises, Climbs}
 
 -- lists
@@ -85,6 +85,37 @@ module _ {E : Type 0} (K : Layout E) where
 
     pub valid_come : (r : Risen) → All (Loose K h g) (risen_list r) → Valid valid r
     valid_come r = valid_each r.first r.second
+
+  -- a page of the tree went to its block: what stands above it rises on
+  module _ (z : Start E) (ws : List Branch) (level b : ℕ) (small : length z.goal < 2 ^ 64) {X : Type 0} (read : List ℕ → List X) (entry : ℕ → List X → Child) (cap k : ℕ) (xs : List X)
+      (m : Memory) (s : List ℕ) (m' : Memory) (s' : List ℕ) where
+    abbrev Grown : List Child → Type 0
+    Grown ks = Growing K z.memory z.stock z.level z.top z.goal level b ws m'.block (uses s') ks
+
+    module _ (enough : cap < length xs → 1 + needed K z.memory ws ≤ length s) (one_page : (one : Child) → InOne read entry cap k b xs m s one m' s' → Grown (entry b xs ∷ []))
+        (two_pages : (d : ℕ) → cap < length xs → Parted read k b xs m s d m' s' → Grown (entry b (lower xs) ∷ entry d (upper xs) ∷ [])) where
+      rise_on : (one : Child) (two : Option Child) → Settled read entry cap k b xs m s (record { first = one; second = two }) m' s' → Rises K z ws m' s' (record { first = one; second = two })
+      unfolding one_or_two
+      rise_on one None p = record {
+        grows = record { level = level; block = b; growing = subst (λ (y : Child). Grown (y ∷ [])) (sym p.is) (one_page one p); few = omega arith };
+        stocked = p.stocked;
+        enough = λ l. absurd (omega arith);
+        small = small;
+      }
+      rise_on one (Some other) p = record {
+        grows = record {
+          level = level;
+          block = b;
+          growing = subst (λ (y : Child). Grown (y ∷ other ∷ [])) (sym p.first_is) (subst (λ (y : Child). Grown (entry b (lower xs) ∷ y ∷ [])) (sym p.second_is) (two_pages other.block p.full p.parted));
+          few = omega arith;
+        };
+        stocked = p.parted.stocked;
+        enough = λ l. omega (arith, enough p.full, p.parted.fewer);
+        small = small;
+      }
+
+      pub rises_on : (r : Risen) → Settled read entry cap k b xs m s r m' s' → Rises K z ws m' s' r
+      rises_on r = rise_on r.first r.second
 
   module _ (lw : Lawful K) (z : Start E) (w : Branch) (ws : List Branch) (m : Memory) (s : List ℕ) (r : Risen) (v : Rises K z (w ∷ ws) m s r) where
     abbrev f : Mem
@@ -172,49 +203,20 @@ module _ {E : Type 0} (K : Layout E) where
       beside = omega (arith, fits w.block, hit_same w.block, held_le g w.block);
     }
 
-    went : (k : ℕ) (m' : Memory) (s' : List ℕ) (one' : Child) (two' : Option Child) → Settled K.children (entry_of K) K.node_cap k w.block (placed ks w.place r) m s (record { first = one'; second = two' }) m' s' → Rises K z ws m' s' (record { first = one'; second = two' })
-    unfolding one_or_two
-    went k m' s' one' None p = record {
-      grows = record {
-        level = suc h;
-        block = w.block;
-        growing = subst (λ (x : Child). Growing K f z.stock z.level z.top z.goal (suc h) w.block ws m'.block (uses s') (x ∷ [])) (sym (p.is ∙ ap (entry_of K w.block) is_now))
-            (grow_one K lw f z.stock z.level z.top z.goal h v.grows.block w ws g m'.block (uses s) (uses s') ms grown (record {
-              few = omega (arith, p.few, ap length is_now);
-              reads = p.reads ∙ is_now;
-              there = p.there;
-              writes = p.ran.step;
-            }));
-        few = omega arith;
-      };
-      stocked = p.stocked;
-      enough = λ l. absurd (omega arith);
-      small = v.small;
-    }
-    went k m' s' one' (Some other) p = record {
-      grows = record {
-        level = suc h;
-        block = w.block;
-        growing = subst (λ (x : Child). Growing K f z.stock z.level z.top z.goal (suc h) w.block ws m'.block (uses s') (x ∷ other ∷ [])) (sym (p.first_is ∙ ap (λ (xs : List Child). entry_of K w.block (lower xs)) is_now))
-            (subst (λ (x : Child). Growing K f z.stock z.level z.top z.goal (suc h) w.block ws m'.block (uses s') (entry_of K w.block (lower (now K f w ms)) ∷ x ∷ [])) (sym (p.second_is ∙ ap (λ (xs : List Child). entry_of K other.block (upper xs)) is_now))
-            (grow_two K lw f z.stock z.level z.top z.goal h v.grows.block w ws g m'.block (uses s) (uses s') ms grown other.block (record {
-              too_many = omega (arith, p.full, ap length is_now);
-              not_more = omega (arith, length_placed ks w.place r inside, ap length is_now, few, length_one_or_two r.first r.second, lw.node_room);
-              first = p.parted.first ∙ ap lower is_now;
-              second = p.parted.second ∙ ap upper is_now;
-              there = p.parted.there;
-              there' = p.parted.there';
-              writes = p.parted.ran.step;
-            })));
-        few = omega arith;
-      };
-      stocked = p.parted.stocked;
-      enough = λ l. omega (arith, full p.full, p.parted.fewer);
-      small = v.small;
-    }
-
     pub turn : (k : ℕ) (m' : Memory) (s' : List ℕ) (r' : Risen) → Settled K.children (entry_of K) K.node_cap k w.block (placed ks w.place r) m s r' m' s' → Rises K z ws m' s' r'
-    turn k m' s' r' = went k m' s' r'.first r'.second
+    turn k m' s' r' p = rises_on z ws (suc h) w.block v.small K.children (entry_of K) K.node_cap k (now K f w ms) m s m' s'
+        (λ l. full (omega (arith, l, ap length is_now)))
+        (λ o q. grow_one K lw f z.stock z.level z.top z.goal h v.grows.block w ws g m'.block (uses s) (uses s') ms grown (record { few = q.few; reads = q.reads; there = q.there; writes = q.ran.step }))
+        (λ d l q. grow_two K lw f z.stock z.level z.top z.goal h v.grows.block w ws g m'.block (uses s) (uses s') ms grown d (record {
+          too_many = l;
+          not_more = omega (arith, length_placed ks w.place r inside, ap length is_now, few, length_one_or_two r.first r.second, lw.node_room);
+          first = q.first;
+          second = q.second;
+          there = q.there;
+          there' = q.there';
+          writes = q.ran.step;
+        }))
+        r' (subst (λ (xs : List Child). Settled K.children (entry_of K) K.node_cap k w.block xs m s r' m' s') is_now p)
 
 -- an entry gives way to one or two
 pub placed_one : (ks : List Child) (i : ℕ) (r : Risen) → i < length ks → r.second ≡ None → set ks i r.first ≡ placed ks i r

@@ -1,9 +1,8 @@
 -- An insertion from its beginning to its end.
-use Rattle.std.proofs.Common.{◌≡◌, ℕ, zero, suc, ◌+◌, ◌-◌, ◌*◌, ◌^◌, ◌<◌, ◌≤◌, eqb, ltb, List, [], ◌∷◌, length, take, drop, Some, None, Option, sym, refl, ap, ◌∙◌, subst, ap₂, mul-le-mul, arith, length-append, length-drop, length-take}
+use Rattle.std.proofs.Common.{◌≡◌, ℕ, zero, suc, ◌+◌, ◌-◌, ◌*◌, ◌^◌, ◌<◌, ◌≤◌, eqb, ltb, List, [], ◌∷◌, length, take, drop, sym, refl, ap, ◌∙◌, subst, ap₂, mul-le-mul, arith, length-append, length-drop, length-take}
 use native.Mathlib.Decide.{ℕ_discrete}
 use Rattle.std.proofs.lemmas.Bool.{eq-eqb, ne_eqb, ltb-true, ltb-false, cond_both}
 use Rattle.std.specs.List.{insert}
-use Rattle.page.specs.declared.child.Child.{Child}
 use Rattle.page.specs.Layout.{Layout, Lawful, entry_of_leaf}
 use Rattle.store.specs.Memory.{Memory, Stored}
 use Rattle.store.specs.Steps.{Mem, Step, Ran, hit, held}
@@ -20,9 +19,8 @@ use Rattle.tree.specs.declared.path.Branch.{Branch}
 use Rattle.tree.specs.Paths.{before, behind}
 use Rattle.tree.specs.Down.{Down}
 use Rattle.tree.specs.Leaves.{Begun}
-use Rattle.tree.specs.Climb.{one_or_two, Start}
+use Rattle.tree.specs.Climb.{Start}
 use Rattle.tree.specs.declared.risen.Risen.{Risen}
-use Rattle.tree.specs.Growing.{Growing}
 use Rattle.tree.specs.Pages.{Reading}
 use Rattle.tree.proofs.Bounds.{most}
 use Rattle.tree.proofs.Frames.{frame}
@@ -33,8 +31,9 @@ use Rattle.seek.specs.Descent.{nodes_full, full_run}
 use Rattle.tree.proofs.Low.{blocks_low}
 use Rattle.seek.proofs.Readings.{reading_left, reading_ran}
 use Rattle.grow.specs.Asks.{insert_asks}
-use Rattle.grow.specs.Settle.{lower, upper, Settled}
+use Rattle.grow.specs.Settle.{Settled}
 use Rattle.grow.specs.Rises.{Spent, needed, Rises}
+use Rattle.grow.proofs.Climbing.{rises_on}
 use Rattle.grow.specs.Crown.{Crowned}
 use Rattle.grow.specs.Inserted.{blocks_needed, Inserted}
 
@@ -129,7 +128,16 @@ module _ {E : Type 0} (K : Layout E) where
   length_inserted : (xs : List E) (i : ℕ) (x : E) → length (insert xs i x) ≡ length xs + 1
   length_inserted xs i x = omega (arith, length-append (take i xs) (x ∷ drop i xs), length-take i xs, length-drop i xs)
 
-  module _ (t : Tree) (at : ℕ) (x : E) (m : Memory) (lies : Lies K m t) (tall : 0 < t.height) where
+  -- an insertion into a tree that has a root, and what may be taken for granted of the kind of tree
+  pub record Insertion (t : Tree) (at : ℕ) (x : E) (m : Memory) : Type 0 where
+    pub lawful : Lawful K
+    pub thin : K.leaf_cap ≤ 62
+    pub wide : 20 ≤ K.node_cap
+    pub lies : Lies K m t
+    pub tall : 0 < t.height
+    pub ample : insert_asks ≤ m.left
+
+  module _ {t : Tree} {at : ℕ} {x : E} {m : Memory} (q : Insertion t at x m) where
     abbrev f : Mem
     f = m.block
 
@@ -137,10 +145,10 @@ module _ {E : Type 0} (K : Layout E) where
     H = t.height - 1
 
     top : HasRoot t.height f t.root
-    top = has_root t.height f t.root tall lies.stands
+    top = has_root t.height f t.root q.tall q.lies.stands
 
     pub once : (c : ℕ) → treeUses K H f t.root c ≤ held f c
-    once c = omega (arith, lies.once c, top.uses_is c)
+    once c = omega (arith, q.lies.once c, top.uses_is c)
 
     -- what the climb is to make
     abbrev pub start : Start E
@@ -152,7 +160,7 @@ module _ {E : Type 0} (K : Layout E) where
     pub is_height : t.height ≡ suc H
     is_height = top.height
 
-    module _ (b a : ℕ) (ws : List Branch) (d : Down K f H t.root at 1 0 b ws a) where
+    module _ {b a : ℕ} {ws : List Branch} (d : Down K f H t.root at 1 0 b ws a) where
       leaf : Stored f b
       unfolding Sound
       leaf = d.sound.0
@@ -171,7 +179,7 @@ module _ {E : Type 0} (K : Layout E) where
             ∙ ap₂ (λ (n : ℕ) (ys : List E). insert ys n x) (sym d.place) (sym (seen K f 0 b ws H t.root d.path).contents_seen);
       }
 
-      module _ (k n : ℕ) (s : List ℕ) (m₂ : Memory) (st : Stock k n m s m₂) where
+      module _ {k n : ℕ} {s : List ℕ} {m₂ : Memory} (st : Stock k n m s m₂) where
         same_leaf : m₂.block b ≡ f b
         same_leaf = st.ran.step.leaves b (let l : 0 < held f b = omega (arith, stored_held f b leaf) in l)
 
@@ -196,8 +204,8 @@ module _ {E : Type 0} (K : Layout E) where
         unfolding Sound
         leaf_most = d.sound.1
 
-        small : K.leaf_cap ≤ 62 → length start.goal < 2 ^ 64
-        small l = omega (arith, length_inserted (contents K H f t.root) at x, few_items l H f t.root top.root.sound once)
+        small : length start.goal < 2 ^ 64
+        small = omega (arith, length_inserted (contents K H f t.root) at x, few_items q.thin H f t.root top.root.sound once)
 
         from_start : (v : ℕ → ℕ) (m₃ : Memory) → Step (λ c. hit b c + uses s c) v m₂.block m₃.block → Step (λ c. hit b c + 0) v f m₃.block
         from_start v m₃ p = step_as _ _ _ _ f m₃.block (λ c. omega arith) (λ c. refl)
@@ -210,57 +218,27 @@ module _ {E : Type 0} (K : Layout E) where
               let e : length (K.items (f b)) ≡ K.leaf_cap = omega (arith, leaf_few, ap (λ (ws : List ℕ). length (K.items ws)) same_leaf) in
               omega (arith, full e, st.all)
 
-          leaf_went : K.leaf_cap ≤ 62 → Lawful K → (j : ℕ) (m₃ : Memory) (s₃ : List ℕ) (one : Child) (two : Option Child)
-              → Settled K.items (entry_of_leaf K) K.leaf_cap j b (insert (K.items (m₂.block b)) a x) m₂ s (record { first = one; second = two }) m₃ s₃ → Rises K start ws m₃ s₃ (record { first = one; second = two })
-          unfolding one_or_two
-          leaf_went l lw j m₃ s₃ one None p = record {
-            grows = record {
-              level = 0;
-              block = b;
-              growing = subst (λ (q : Child). Growing K f (λ c. 0) H t.root start.goal 0 b ws m₃.block (uses s₃) (q ∷ [])) (sym (p.is ∙ ap (entry_of_leaf K b) items_are))
-                  (grow_leaf K f (λ c. 0) H t.root start.goal b ws (insert (K.items (f b)) a x) begun m₃.block (uses s₃) (record {
-                    few = omega (arith, p.few, ap length items_are);
-                    reads = p.reads ∙ items_are;
-                    there = p.there;
-                    writes = from_start _ m₃ p.ran.step;
-                  }) (omega (arith, length_inserted (K.items (f b)) a x)));
-              few = omega arith;
-            };
-            stocked = p.stocked;
-            enough = λ q. absurd (omega arith);
-            small = small l;
-          }
-          leaf_went l lw j m₃ s₃ one (Some other) p = record {
-            grows = record {
-              level = 0;
-              block = b;
-              growing = subst (λ (q : Child). Growing K f (λ c. 0) H t.root start.goal 0 b ws m₃.block (uses s₃) (q ∷ other ∷ [])) (sym (p.first_is ∙ ap (λ (ys : List E). entry_of_leaf K b (lower ys)) items_are))
-                  (subst (λ (q : Child). Growing K f (λ c. 0) H t.root start.goal 0 b ws m₃.block (uses s₃) (entry_of_leaf K b (lower (insert (K.items (f b)) a x)) ∷ q ∷ [])) (sym (p.second_is ∙ ap (λ (ys : List E). entry_of_leaf K other.block (upper ys)) items_are))
-                  (grow_leaves K f (λ c. 0) H t.root start.goal b ws (insert (K.items (f b)) a x) begun m₃.block (uses s₃) other.block (record {
-                    too_many = omega (arith, p.full, ap length items_are);
-                    not_more = omega (arith, length_inserted (K.items (f b)) a x, leaf_most, lw.leaf_room);
-                    first = p.parted.first ∙ ap lower items_are;
-                    second = p.parted.second ∙ ap upper items_are;
-                    there = p.parted.there;
-                    there' = p.parted.there';
-                    writes = from_start _ m₃ p.parted.ran.step;
-                  })));
-              few = omega arith;
-            };
-            stocked = p.parted.stocked;
-            enough = λ q.
-                let e : length (K.items (f b)) ≡ K.leaf_cap = omega (arith, p.full, ap length items_are, length_inserted (K.items (f b)) a x, leaf_most) in
-                omega (arith, full e, st.all, p.parted.fewer);
-            small = small l;
-          }
-
-          pub leaf_rises : K.leaf_cap ≤ 62 → Lawful K → (j : ℕ) (m₃ : Memory) (s₃ : List ℕ) (r : Risen) → Settled K.items (entry_of_leaf K) K.leaf_cap j b (insert (K.items (m₂.block b)) a x) m₂ s r m₃ s₃ → Rises K start ws m₃ s₃ r
-          leaf_rises l lw j m₃ s₃ r = leaf_went l lw j m₃ s₃ r.first r.second
+          pub leaf_rises : (j : ℕ) (m₃ : Memory) (s₃ : List ℕ) (r : Risen) → Settled K.items (entry_of_leaf K) K.leaf_cap j b (insert (K.items (m₂.block b)) a x) m₂ s r m₃ s₃ → Rises K start ws m₃ s₃ r
+          leaf_rises j m₃ s₃ r p =
+              let n = length_inserted (K.items (f b)) a x in
+              rises_on K start ws 0 b small K.items (entry_of_leaf K) K.leaf_cap j (insert (K.items (f b)) a x) m₂ s m₃ s₃
+              (λ l. let e : length (K.items (f b)) ≡ K.leaf_cap = omega (arith, l, n, leaf_most) in omega (arith, full e, st.all))
+              (λ o y. grow_leaf K f (λ c. 0) H t.root start.goal b ws (insert (K.items (f b)) a x) begun m₃.block (uses s₃) (record { few = y.few; reads = y.reads; there = y.there; writes = from_start _ m₃ y.ran.step }) (omega (arith, n)))
+              (λ d l y. grow_leaves K f (λ c. 0) H t.root start.goal b ws (insert (K.items (f b)) a x) begun m₃.block (uses s₃) d (record {
+                too_many = l;
+                not_more = omega (arith, n, leaf_most, q.lawful.leaf_room);
+                first = y.first;
+                second = y.second;
+                there = y.there;
+                there' = y.there';
+                writes = from_start _ m₃ y.ran.step;
+              }))
+              r (subst (λ (xs : List E). Settled K.items (entry_of_leaf K) K.leaf_cap j b xs m₂ s r m₃ s₃) items_are p)
 
     -- the end
-    module _ (m₅ : Memory) (s₅ : List ℕ) (t' : Tree) (v : Crowned K start m₅ s₅ t') (k : ℕ) (sp : Spent k m m₅) where
+    module _ {m₅ : Memory} {s₅ : List ℕ} {t' : Tree} (v : Crowned K start m₅ s₅ t') {k : ℕ} (sp : Spent k m m₅) where
       pub rest_few : length s₅ ≤ m₅.many
-      rest_few = reserve_few s₅ m₅ v.stocked (omega (arith, sp.number, lies.number))
+      rest_few = reserve_few s₅ m₅ v.stocked (omega (arith, sp.number, q.lies.number))
 
       pub finished : (m₆ : Memory) → GivenAll m₅ s₅ m₆ → k + length s₅ ≤ insert_asks → Inserted K at x t m t' m₆
       finished m₆ ga l = record {

@@ -1,5 +1,5 @@
 -- A page goes to its block, or in two halves to it and to a block of the reserve.
-use Rattle.std.proofs.Common.{◌≡◌, ℕ, ◌+◌, ◌<◌, ◌≤◌, List, ◌∷◌, length, sym, refl, ap, ◌∙◌, subst, arith}
+use Rattle.std.proofs.Common.{◌≡◌, ℕ, ◌+◌, ◌/◌, ◌<◌, ◌≤◌, List, ◌∷◌, ◌++◌, length, sym, refl, ap, ◌∙◌, subst, arith, take-append-drop}
 use Rattle.page.specs.declared.child.Child.{Child}
 use Rattle.store.specs.Memory.{Memory, Stored}
 use Rattle.store.specs.Steps.{Mem, hit, held}
@@ -18,6 +18,10 @@ use Rattle.grow.specs.Settle.{lower, upper, Parted, Filled, InTwo}
 -- a block that is held and in no reserve stands beside the reserve
 pub beside_fits : (b : ℕ) (u : ℕ → ℕ) (f : Mem) → Stored f b → u b ≡ 0 → Stocked u f → (c : ℕ) → hit b c + u c ≤ held f c
 beside_fits b u f s e t = by_place (λ c. hit b c + u c ≤ held f c) b (omega (arith, hit_same b, stored_held f b s)) (λ c n. omega (arith, hit_other b c n, t.fits c))
+
+-- what is counted over all entries is counted over the two halves
+pub over_halves : {X : Type 0} (n : List X → ℕ) → ((xs ys : List X) → n (xs ++ ys) ≡ n xs + n ys) → (xs : List X) → n (lower xs) + n (upper xs) ≡ n xs
+over_halves n add xs = sym (add (lower xs) (upper xs)) ∙ ap n (take-append-drop (length xs / 2) xs)
 
 -- what stands above two pages
 module _ {X : Type 0} (read : List ℕ → List X) (entry : ℕ → List X → Child) (cap b : ℕ) (xs : List X) (m m' : Memory) (s : List ℕ) where

@@ -1,15 +1,12 @@
-use Rattle.std.proofs.Common.{◌/◌, length, ap, arith, take-append-drop}
-use Rattle.grow.proofs.Settling.{in_both}
-use Rattle.grow.specs.Settle.{lower, upper}
+use Rattle.std.proofs.Common.{ap, arith}
+use Rattle.grow.proofs.Settling.{over_halves, in_both}
 use Rattle.grow.proofs.settle.settle.Goals as goal
 
 pub entry-requires-2-clause-few : goal.entry-requires-2-clause-few
-entry-requires-2-clause-few g c =
-    omega (arith, c.requires.counts, ap g.L.Level.items_under c.split-upper.ensures.stay, g.met.L.Level.adds (lower c.args.page) (upper c.args.page), ap g.L.Level.items_under (take-append-drop (length c.args.page / 2) c.args.page))
+entry-requires-2-clause-few g c = let n = g.L.Level.items_under in omega (arith, c.requires.counts, ap n c.split-upper.ensures.stay, over_halves n g.met.L.Level.adds c.args.page)
 
 pub entry-requires-3-clause-few : goal.entry-requires-3-clause-few
-entry-requires-3-clause-few g c =
-    omega (arith, c.requires.counts, ap g.L.Level.items_under c.split-upper.ensures.leave, g.met.L.Level.adds (lower c.args.page) (upper c.args.page), ap g.L.Level.items_under (take-append-drop (length c.args.page / 2) c.args.page))
+entry-requires-3-clause-few g c = let n = g.L.Level.items_under in omega (arith, c.requires.counts, ap n c.split-upper.ensures.leave, over_halves n g.met.L.Level.adds c.args.page)
 
 pub returns : goal.returns
 returns g c =

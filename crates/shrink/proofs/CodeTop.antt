@@ -19,9 +19,6 @@ module _ {E : Type 0} (K : Layout E) (lw : Lawful K) (z : Start E) (t : Tree) (m
     pub top_stored : Stored m.block t.root
     top_stored = subst (Stored m.block) v.root (stored_of K z.level m.block z.top (topping.sound_top K lw z z.level m o v.climbing))
 
-    pub top_left : top_asks ≤ m.left
-    top_left = topping.left_top K lw z z.level m o v.climbing
-
     -- as the theorems say it, and as code does
     as_code : (b n : ℕ) (m' : Memory) → b ≡ z.top → n ≡ suc z.level → Trimmed K z n b m' → Trimmed K z t.height t.root m'
     as_code b n m' eb en w = subst (λ (x : ℕ). Trimmed K z x t.root m') (omega (arith, en, v.level)) (subst (λ (x : ℕ). Trimmed K z n x m') (eb ∙ v.root) w)

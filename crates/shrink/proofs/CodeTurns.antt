@@ -5,10 +5,9 @@ use Rattle.page.specs.declared.child.Child.{Child}
 use Rattle.page.specs.Layout.{Layout, Lawful}
 use Rattle.store.specs.Memory.{Memory, Stored}
 use Rattle.tree.specs.Pages.{page_asks, Reading}
-use Rattle.tree.specs.Tree.{ChildOk}
 use Rattle.tree.specs.declared.path.Branch.{Branch}
 use Rattle.tree.specs.Paths.{none}
-use Rattle.shrink.specs.Asks.{share_asks, turn_asks}
+use Rattle.shrink.specs.Asks.{share_asks}
 use Rattle.shrink.specs.Sharing.{Neighbours, Shared}
 use Rattle.shrink.specs.Shrinking.{Start, Climbing, Ready}
 use Rattle.shrink.specs.Turning.{Site, Next, Below, Mended}
@@ -61,9 +60,6 @@ module _ {E : Type 0} (K : Layout E) (lw : Lawful K) (on : ℕ → Type 0) (s : 
   abbrev kids : List Child
   kids = K.children (z.memory.block w.block)
 
-  pub turn_left : turn_asks ≤ m.left
-  turn_left = opening.left_now K lw z h w ws m o v.climbing
-
   pub turn_there : Stored m.block w.block
   turn_there = opening.there K lw z h w ws m o v.climbing
 
@@ -78,9 +74,6 @@ module _ {E : Type 0} (K : Layout E) (lw : Lawful K) (on : ℕ → Type 0) (s : 
 
   pub turn_two : 2 ≤ length (K.children (m.block w.block))
   turn_two = rw reads (opening.two K lw z h w ws m o v.climbing)
-
-  pub turn_child : (k : Child) → o ≡ Some k → ChildOk K h m.block k
-  turn_child k is = (subst (λ (x : Option Child). Climbing K z h (w ∷ ws) m x) is v.climbing).risen.1
 
   -- the node was read
   module _ (m₁ : Memory) (r : Reading page_asks m m₁) (es : List Child) (e : es ≡ K.children (m.block w.block)) where

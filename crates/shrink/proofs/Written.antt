@@ -6,7 +6,7 @@ use Rattle.store.specs.Memory.{Memory, Stored}
 use Rattle.store.specs.Steps.{Mem, Ran, hit}
 use Rattle.store.proofs.Stepping.{step_as}
 use Rattle.store.proofs.Running.{ran_as, ran_part, ran_then, ran_asked, ran_more}
-use Rattle.tree.specs.Pages.{page_asks, Reading, Writing}
+use Rattle.tree.specs.Pages.{page_asks, Reading}
 use Rattle.tree.specs.Tree.{contents, uses, many, low, Sound, contents_of, uses_of, ChildOk, ChildrenOk}
 use Rattle.tree.specs.declared.path.Branch.{Branch}
 use Rattle.tree.specs.Paths.{before, behind}
@@ -24,15 +24,6 @@ use Rattle.seek.specs.Asks.{descend_asks}
 use Rattle.shrink.specs.Putting.{Put}
 use Rattle.shrink.specs.Shrinking.{Start, Starts, Risen, Climbing, Ready}
 
--- what is read by one name is read by another
-module _ {X : Type 0} (read read' : List ℕ → List X) (same : (ws : List ℕ) → read' ws ≡ read ws) where
-  pub writing_as : (k b : ℕ) (xs : List X) (m m' : Memory) → Writing k read b xs m m' → Writing k read' b xs m m'
-  writing_as k b xs m m' w = record {
-    wrote = record { words = w.wrote.words; long = w.wrote.long; reads = same w.wrote.words ∙ w.wrote.reads; is = w.wrote.is };
-    ran = w.ran;
-    many = w.many;
-  }
-
 module _ {E : Type 0} (K : Layout E) (lw : Lawful K) where
   module _ (z : Start E) (h b : ℕ) (ws : List Branch) (m : Memory) (ks : List Child) (r : Ready K z h b ws m ks) where
     abbrev g : Mem
@@ -47,9 +38,6 @@ module _ {E : Type 0} (K : Layout E) (lw : Lawful K) where
       length-append (contents_of K h g ks) (behind K z.memory.block (suc h) ws),
       r.starts.small,
     )
-
-    pub ready_left : page_asks ≤ m.left
-    ready_left = omega (arith, r.ran.asks, r.room, r.starts.left)
 
     module _ (o : Option Child) (m' : Memory) (p : Put K.children (entry_of K) K.node_cap b ks m o m') where
       reads : K.children (m'.block b) ≡ ks

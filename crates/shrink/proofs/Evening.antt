@@ -2,7 +2,6 @@
 use Rattle.std.proofs.Common.{◌≡◌, ℕ, ◌+◌, ◌^◌, ◌<◌, ◌≤◌, List, ◌++◌, length, Some, None, Option, IfSome, [], sym, refl, ap, ◌∙◌, subst, arith, MatchOption, length-append}
 use Rattle.page.specs.declared.child.Child.{Child}
 use Rattle.page.specs.Balance.{Merged, Evened}
-use Rattle.page.specs.Layout.{half}
 use Rattle.store.specs.Memory.{Memory, Stored, released}
 use Rattle.store.specs.Steps.{Mem, Ran, hit}
 use Rattle.store.proofs.Stepping.{at_other}

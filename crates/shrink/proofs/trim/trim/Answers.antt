@@ -2,4 +2,4 @@ use Rattle.shrink.proofs.CodeTop.{code_full}
 use Rattle.shrink.proofs.trim.trim.Goals as goal
 
 pub returns-in-Some : goal.returns-in-Some
-returns-in-Some g c = λ z v. code_full g.K.Kind.layout g.met.K.Kind.lawful z _ _ _ v _ c.in-Some.is
+returns-in-Some g c = λ z v. code_full g.met.K.Kind.lawful v c.in-Some.is

@@ -7,3 +7,4 @@ pub mod Going
 pub mod EntryWords
 pub mod Exchange
 pub mod Updating
+pub mod Standing

@@ -1,5 +1,5 @@
 -- The topmost page of a tree, by the tree's height.
-use Rattle.std.proofs.Common.{◌≡◌, ℕ, zero, suc, ◌^◌, ◌<◌, ◌≤◌, length, refl, arith}
+use Rattle.std.proofs.Common.{◌≡◌, ℕ, zero, suc, ◌^◌, ◌<◌, ◌≤◌, length, arith}
 use Rattle.page.specs.Layout.{Layout, counts}
 use Rattle.store.specs.Memory.{Stored}
 use Rattle.store.specs.Steps.{Mem, held}
@@ -9,23 +9,6 @@ use Rattle.tree.proofs.Entries.{counts_right}
 use Rattle.tree.proofs.Low.{length_low}
 
 module _ {E : Type 0} (K : Layout E) where
-  -- nothing
-  pub none_held : (h : ℕ) (f : Mem) (b : ℕ) → h ≡ 0 → 0 ≡ length (tall_contents K h f b)
-  unfolding tall_contents
-  none_held zero f b e = refl
-  none_held (suc h) f b e = absurd (omega arith)
-
-  -- a leaf
-  pub record TopLeaf (h : ℕ) (f : Mem) (b : ℕ) : Type 0 where
-    pub there : Stored f b
-    pub held : tall_contents K h f b ≡ K.items (f b)
-
-  pub top_leaf : (h : ℕ) (f : Mem) (b : ℕ) → h ≡ 1 → Tall K h f b → TopLeaf h f b
-  unfolding Tall tall_contents Sound contents
-  top_leaf zero f b e w = absurd (omega arith)
-  top_leaf (suc zero) f b e w = record { there = w.sound.0; held = refl }
-  top_leaf (suc (suc h)) f b e w = absurd (omega arith)
-
   -- a node
   pub record TopNode (h : ℕ) (f : Mem) (b : ℕ) : Type 0 where
     pub there : Stored f b

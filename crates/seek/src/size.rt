@@ -29,17 +29,16 @@ fn total<K: Kind, W: Store<M>, M>(m: &mut M, b: u32) -> u64
     sum
 }
 
+#[tactic(auto, unfolding(tree::specs::Tall::tall_contents, tree::specs::Tall::Tall, tree::specs::Tree::Sound))]
 pub fn length<K: Kind, W: Store<M>, M>(m: &mut M, t: Tree) -> u64
     requires lies { Lies K.Kind.layout (W.Store.memory m.old) t }
     requires asks { length_asks ≤ (W.Store.memory m.old).left }
     ensures value { result ≡ length (holds K.Kind.layout (W.Store.memory m.old).block t) }
     ensures same { Reading length_asks (W.Store.memory m.old) (W.Store.memory m.new) }
 {
-    if t.height == 0 {
-        return 0;
+    match t.height {
+        0 => 0,
+        1 => number_of_entries::<W, M>(m, t.root),
+        _ => total::<K, W, M>(m, t.root),
     }
-    if t.height == 1 {
-        return number_of_entries::<W, M>(m, t.root);
-    }
-    total::<K, W, M>(m, t.root)
 }

@@ -9,11 +9,11 @@ load_page-page-requires-clause-there g c = turn_there g.met.L.Kind.Kind.lawful c
 pub load_page-page-requires-clause-few : goal.load_page-page-requires-clause-few
 load_page-page-requires-clause-few g c = turn_few g.met.L.Kind.Kind.lawful c.requires.1
 
-pub replace-requires-clause-there : goal.replace-requires-clause-there
-replace-requires-clause-there g c = rw c.load_page-page.ensures.after (turn_inside g.met.L.Kind.Kind.lawful c.requires.1)
+pub enter-requires-clause-there : goal.enter-requires-clause-there
+enter-requires-clause-there g c = rw c.load_page-page.ensures.after (turn_inside g.met.L.Kind.Kind.lawful c.requires.1)
 
 pub returns-in-Some : goal.returns-in-Some
-returns-in-Some g c = λ s v. code_entered g.met.L.Kind.Kind.lawful v c.load_page-page.ensures.same c.load_page-page.ensures.after c.in-Some.is c.replace.ensures.after
+returns-in-Some g c = λ s v. code_entered g.met.L.Kind.Kind.lawful v c.load_page-page.ensures.same c.load_page-page.ensures.after c.in-Some.is c.enter.ensures
 
 pub mend-requires-clause-there : goal.mend-requires-clause-there
 mend-requires-clause-there g c = code_inside g.met.L.Kind.Kind.lawful c.requires.1 c.load_page-page.ensures.same c.load_page-page.ensures.after c.left_of.ensures

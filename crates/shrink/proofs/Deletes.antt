@@ -27,8 +27,7 @@ use Rattle.shrink.proofs.Written.{begun}
 pub length_without : {X : Type 0} (xs : List X) (i : ℕ) → i < length xs → length (take i xs ++ drop (suc i) xs) + 1 ≡ length xs
 length_without xs i l = omega (arith, length-append (take i xs) (drop (suc i) xs), length-take i xs, length-drop (suc i) xs)
 
-module _ {E : Type 0} (K : Layout E) (lw : Lawful K) (wide : 20 ≤ K.node_cap) (narrow : K.leaf_cap ≤ 62) (m : Memory) (t : Tree) (p : ℕ)
-    (lies : Lies K m t) (place : p < length (holds K m.block t)) (asks : delete_asks ≤ m.left) where
+module _ {E : Type 0} {K : Layout E} (lw : Lawful K) (wide : 20 ≤ K.node_cap) (narrow : K.leaf_cap ≤ 62) {m : Memory} {t : Tree} {p : ℕ} (lies : Lies K m t) (place : p < length (holds K m.block t)) (asks : delete_asks ≤ m.left) where
   abbrev f : Mem
   f = m.block
 
@@ -38,7 +37,7 @@ module _ {E : Type 0} (K : Layout E) (lw : Lawful K) (wide : 20 ≤ K.node_cap) 
   abbrev pub start : Start E
   start = record { memory = m; level = t.height - 1; top = t.root; goal = take p xs ++ drop (suc p) xs; asks = delete_asks }
 
-  pub tall : 0 < t.height
+  tall : 0 < t.height
   tall = tall_some K t.height f t.root p place
 
   starts : Starts K start
@@ -50,37 +49,31 @@ module _ {E : Type 0} (K : Layout E) (lw : Lawful K) (wide : 20 ≤ K.node_cap) 
     left = asks;
   }
 
-  module _ (r : Reached) (m₁ m₂ m₃ : Memory) (d : Descended K m t p Item r m₁) (read : Reading page_asks m₁ m₂) where
-    items : K.items (m₁.block r.leaf) ≡ K.items (f r.leaf)
-    items = ap (λ (g : Mem). K.items (g r.leaf)) (reading_blocks descend_asks m m₁ d.same)
+  module _ {r : Reached} {m₁ m₂ : Memory} (d : Descended K m t p Item r m₁) (read : Reading page_asks m₁ m₂) {es : List E} (after : es ≡ K.items (m₁.block r.leaf)) where
+    items : es ≡ K.items (f r.leaf)
+    items = after ∙ ap (λ (g : Mem). K.items (g r.leaf)) (reading_blocks descend_asks m m₁ d.same)
 
-    room : descend_asks + leaf_asks + (length (r.path) * turn_asks + top_asks) ≤ delete_asks
+    room : descend_asks + leaf_asks + (length r.path * turn_asks + top_asks) ≤ delete_asks
     room = omega (arith, d.deep, height_low K wide t.height f t.root lies.stands lies.once)
 
-    -- es is the page of the leaf, and es' what is left of it
-    pub code_begun : (es es' : List E) (o : Option Child) → es ≡ K.items (m₁.block r.leaf) → es' ≡ take r.at es ++ drop (suc r.at) es
-        → Put K.items (entry_of_leaf K) K.leaf_cap r.leaf es' m₂ o m₃ → Climbing K start 0 (r.path) m₃ o
+    -- the leaf was written without the item: the climb begins
+    pub climb_start : {es' : List E} {o : Option Child} {m₃ : Memory} → es' ≡ take r.at es ++ drop (suc r.at) es → Put K.items (entry_of_leaf K) K.leaf_cap r.leaf es' m₂ o m₃ → Climbing K start 0 r.path m₃ o
     unfolding contents
-    code_begun es es' o e e' q =
-        begun K lw start starts p r.leaf r.at (r.path) d.down m₂ m₃ o goal room (reading_then descend_asks page_asks (descend_asks + page_asks) m m₁ m₂ (omega arith) d.same read)
-        (length_without (K.items (f r.leaf)) r.at (omega (arith, d.down.inside)))
-        (subst (λ (ys : List E). Put K.items (entry_of_leaf K) K.leaf_cap r.leaf ys m₂ o m₃) (e' ∙ ap (λ (ys : List E). take r.at ys ++ drop (suc r.at) ys) (e ∙ items)) q)
-      where
-        same : xs ≡ contents K (t.height - 1) f t.root
-        same = contents_when_tall K t.height f t.root tall
+    climb_start {es'} {o} {m₃} rest q =
+        begun K lw start starts p r.leaf r.at r.path d.down m₂ m₃ o (ap (λ (ys : List E). take p ys ++ drop (suc p) ys) (contents_when_tall K t.height f t.root tall)) room
+        (reading_then descend_asks page_asks (descend_asks + page_asks) m m₁ m₂ (omega arith) d.same read) (length_without (K.items (f r.leaf)) r.at (omega (arith, d.down.inside)))
+        (subst (λ (ys : List E). Put K.items (entry_of_leaf K) K.leaf_cap r.leaf ys m₂ o m₃) (rest ∙ ap (λ (ys : List E). take r.at ys ++ drop (suc r.at) ys) items) q)
 
-        goal : take p xs ++ drop (suc p) xs ≡ take p (contents K (t.height - 1) f t.root) ++ drop (suc p) (contents K (t.height - 1) f t.root)
-        goal = ap (λ (ys : List E). take p ys ++ drop (suc p) ys) same
+    -- it is at the top
+    pub climb_top : {o : Option Child} {m₄ : Memory} → Climbing K start (length r.path) [] m₄ o → Topmost K start t m₄ o
+    climb_top {o} {m₄} v = record { level = omega (arith, tall); root = refl; climbing = subst (λ (h : ℕ). Climbing K start h [] m₄ o) (omega (arith, d.deep)) v }
 
-    pub code_topmost : (m₄ : Memory) (o : Option Child) → Climbing K start (length r.path) [] m₄ o → Topmost K start t m₄ o
-    code_topmost m₄ o v = record { level = omega (arith, tall); root = refl; climbing = subst (λ (h : ℕ). Climbing K start h [] m₄ o) (omega (arith, d.deep)) v }
-
-    pub code_deleted : (es : List E) (x : E) (t' : Tree) (m₅ : Memory) → es ≡ K.items (m₁.block r.leaf) → ((y : E) → x ≡ get_or es r.at y) → Trimmed K start t'.height t'.root m₅ → Deleted K p t m t' x m₅
-    code_deleted es x t' m₅ e ex v = record {
+    pub climb_done : {x : E} {t' : Tree} {m₅ : Memory} → ((y : E) → x ≡ get_or es r.at y) → Trimmed K start t'.height t'.root m₅ → Deleted K p t m t' x m₅
+    climb_done {x} {t'} {m₅} item v = record {
       ran = ran_as delete_asks _ _ m m₅ v.ran _ _ (λ c. uses_when_tall K t.height f t.root tall c) (λ c. refl);
       holds = v.holds;
       stands = v.stands;
-      item = λ y. ex y ∙ ap (λ (ys : List E). get_or ys r.at y) e ∙ leaf_item K m m₁ t p r d y;
+      item = λ y. item y ∙ ap (λ (ys : List E). get_or ys r.at y) after ∙ leaf_item K m m₁ t p r d y;
     }
 
 -- the tree that is left lies in the memory

@@ -13,7 +13,6 @@ use Rattle.tree.specs.Paths.{left, right, Path, before, behind, around, Seen}
 use Rattle.tree.proofs.Each.{flat_append, total_append, All-left, All-right}
 use Rattle.tree.proofs.Frames.{KeptAll, frame_all}
 use Rattle.tree.proofs.Paths.{around_child, child, node_child, node_uses, seen}
-use Rattle.shrink.specs.Asks.{turn_asks}
 use Rattle.shrink.specs.Shrinking.{Start, Climbing}
 
 module _ {E : Type 0} (K : Layout E) (lw : Lawful K) where
@@ -122,6 +121,3 @@ module _ {E : Type 0} (K : Layout E) (lw : Lawful K) where
 
     pub number_now : m.many ≡ held_in g
     number_now = omega (arith, v.ran.number, v.starts.number)
-
-    pub left_now : turn_asks ≤ m.left
-    left_now = omega (arith, v.ran.asks, v.room, v.starts.left)

@@ -1,11 +1,7 @@
 -- Entries of a node that are replaced: one, or two by one or two.
-use Rattle.std.proofs.Common.{◌≡◌, ℕ, zero, suc, ◌+◌, ◌<◌, Bool, T, List, [], ◌∷◌, ◌++◌, length, take, drop, set, Some, None, Option, sym, refl, ap, ◌∙◌, subst, add-one, arith}
+use Rattle.std.proofs.Common.{◌≡◌, ℕ, zero, suc, ◌+◌, ◌<◌, List, [], ◌∷◌, ◌++◌, length, take, drop, set, Some, None, Option, sym, refl, ap, ◌∙◌, add-one, arith}
 use Rattle.page.specs.declared.child.Child.{Child}
-use Rattle.page.specs.Layout.{Layout}
-use Rattle.store.specs.Steps.{Mem}
 use Rattle.tree.specs.Climb.{one_or_two}
-use Rattle.tree.specs.Tree.{All, contents, ChildOk, ChildrenOk}
-use Rattle.tree.proofs.Each.{All-map}
 
 set_two : {X : Type 0} (es : List X) (i : ℕ) (a b : X) → suc i < length es → set (set es i a) (suc i) b ≡ take i es ++ (a ∷ (b ∷ drop (suc (suc i)) es))
 set_two [] i a b l = absurd (omega arith)
@@ -31,21 +27,3 @@ module _ (es vs us : List Child) (i : ℕ) (k : Child) (o : Option Child) (l : i
       second ∙ ap (λ (ys : List Child). take (i + 1) ys ++ drop (i + 1 + 1) ys) first ∙ ap (λ (n : ℕ). take n (set es i k) ++ drop (n + 1) (set es i k)) (add-one i)
       ∙ ap (λ (n : ℕ). take (suc i) (set es i k) ++ drop n (set es i k)) (add-one (suc i)) ∙ set_cut es i k (omega arith)
       ∙ ap (λ (x : Option Child). take i es ++ (one_or_two k x ++ drop (suc (suc i)) es)) (sym is)
-
-module _ (P : Child → Type 0) (k : Child) where
-  pub first_of : (o : Option Child) → All P (one_or_two k o) → P k
-  unfolding All one_or_two
-  first_of None a = a.0
-  first_of (Some j) a = a.0
-
-  pub second_of : (o : Option Child) (j : Child) → o ≡ Some j → All P (one_or_two k o) → P j
-  unfolding All one_or_two
-  second_of o j e a = (subst (λ (x : Option Child). All P (one_or_two k x)) e a).1.0
-
--- what stands above a page can be written
-module _ {E : Type 0} (K : Layout E) (valid : Child → Bool) (law : (n b : ℕ) (xs : List E) → T (valid (record { count = n; block = b; summary = K.summary xs }))) where
-  pub child_valid : (h : ℕ) (f : Mem) (k : Child) → ChildOk K h f k → T (valid k)
-  child_valid h f k x = subst (λ (s : ℕ). T (valid (record { count = k.count; block = k.block; summary = s }))) (sym x.summed) (law k.count k.block (contents K h f k.block))
-
-  pub children_valid : (h : ℕ) (f : Mem) (ks : List Child) → ChildrenOk K h f ks → All (λ k. T (valid k)) ks
-  children_valid h f ks a = All-map (ChildOk K h f) (λ k. T (valid k)) (child_valid h f) ks a

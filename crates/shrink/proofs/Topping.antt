@@ -59,9 +59,6 @@ module _ {E : Type 0} (K : Layout E) (lw : Lawful K) (z : Start E) where
       subst (λ (n : ℕ). least K n ≤ many K n (z.memory.block z.top)) (sym at_top) v.starts.was.full,
     )
 
-    pub left_top : top_asks ≤ m.left
-    left_top = omega (arith, v.ran.asks, v.room, v.starts.left)
-
     pub number_top : m.many ≡ held_in g
     number_top = omega (arith, v.ran.number, v.starts.number)
 

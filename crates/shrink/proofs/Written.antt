@@ -1,12 +1,12 @@
 -- A page is written, and the climb is one level further up, or begins.
-use Rattle.std.proofs.Common.{◌≡◌, ℕ, suc, ◌+◌, ◌*◌, ◌^◌, ◌<◌, ◌≤◌, List, ◌++◌, length, take, drop, Some, None, Option, sym, refl, ap, ◌∙◌, subst, arith, length-append, MatchOption}
+use Rattle.std.proofs.Common.{◌≡◌, ℕ, suc, ◌+◌, ◌*◌, ◌^◌, ◌<◌, ◌≤◌, List, ◌++◌, length, take, drop, Some, None, Option, sym, refl, ap, ◌∙◌, subst, arith, length-append, MatchOption, IfSome}
 use Rattle.page.specs.declared.child.Child.{Child}
 use Rattle.page.specs.Layout.{Layout, Lawful, half, counts, entry_of, entry_of_leaf}
 use Rattle.store.specs.Memory.{Memory, Stored}
 use Rattle.store.specs.Steps.{Mem, Ran, hit}
 use Rattle.store.proofs.Stepping.{step_as}
 use Rattle.store.proofs.Running.{ran_as, ran_part, ran_then, ran_asked, ran_more}
-use Rattle.tree.specs.Pages.{page_asks, Reading, Writing}
+use Rattle.tree.specs.Pages.{page_asks, Reading}
 use Rattle.tree.specs.Tree.{contents, uses, many, low, Sound, contents_of, uses_of, ChildOk, ChildrenOk}
 use Rattle.tree.specs.declared.path.Branch.{Branch}
 use Rattle.tree.specs.Paths.{before, behind}
@@ -24,14 +24,11 @@ use Rattle.seek.specs.Asks.{descend_asks}
 use Rattle.shrink.specs.Putting.{Put}
 use Rattle.shrink.specs.Shrinking.{Start, Starts, Risen, Climbing, Ready}
 
--- what is read by one name is read by another
-module _ {X : Type 0} (read read' : List ℕ → List X) (same : (ws : List ℕ) → read' ws ≡ read ws) where
-  pub writing_as : (k b : ℕ) (xs : List X) (m m' : Memory) → Writing k read b xs m m' → Writing k read' b xs m m'
-  writing_as k b xs m m' w = record {
-    wrote = record { words = w.wrote.words; long = w.wrote.long; reads = same w.wrote.words ∙ w.wrote.reads; is = w.wrote.is };
-    ran = w.ran;
-    many = w.many;
-  }
+-- what stands above a page that was written, of n entries, k where there are enough
+risen_of : {E : Type 0} (K : Layout E) (h b : ℕ) (m : Memory) (k : Child) (enough n : ℕ) → low K h ≡ enough → many K h (m.block b) ≡ n → k.block ≡ b → (enough ≤ n → ChildOk K h m.block k)
+    → (o : Option Child) → MatchOption o (n < enough) (λ j. j ≡ k) → IfSome o (λ _. enough ≤ n) → Risen K h m b o
+risen_of K h b m k enough n el en eb ok None l u = omega (arith, el, en)
+risen_of K h b m k enough n el en eb ok (Some j) e u = (ap (λ (x : Child). x.block) e ∙ eb, subst (ChildOk K h m.block) (sym e) (ok u))
 
 module _ {E : Type 0} (K : Layout E) (lw : Lawful K) where
   module _ (z : Start E) (h b : ℕ) (ws : List Branch) (m : Memory) (ks : List Child) (r : Ready K z h b ws m ks) where
@@ -47,9 +44,6 @@ module _ {E : Type 0} (K : Layout E) (lw : Lawful K) where
       length-append (contents_of K h g ks) (behind K z.memory.block (suc h) ws),
       r.starts.small,
     )
-
-    pub ready_left : page_asks ≤ m.left
-    ready_left = omega (arith, r.ran.asks, r.room, r.starts.left)
 
     module _ (o : Option Child) (m' : Memory) (p : Put K.children (entry_of K) K.node_cap b ks m o m') where
       reads : K.children (m'.block b) ≡ ks
@@ -74,11 +68,7 @@ module _ {E : Type 0} (K : Layout E) (lw : Lawful K) where
 
       risen_node : Risen K (suc h) m' b o
       unfolding many low
-      risen_node = go o p.risen
-        where
-          go : (x : Option Child) → MatchOption x (length ks < half K.node_cap) (λ k. (k ≡ entry_of K b ks) × (half K.node_cap ≤ length ks)) → Risen K (suc h) m' b x
-          go None l = rw reads l
-          go (Some k) e = (ap (λ (x : Child). x.block) e.0, subst (ChildOk K (suc h) m'.block) (sym e.0) (one_node K lw h m'.block b ks there reads e.1 r.few children))
+      risen_node = risen_of K (suc h) b m' (entry_of K b ks) (half K.node_cap) (length ks) refl (ap length reads) refl (λ l. one_node K lw h m'.block b ks there reads l r.few children) o p.risen p.full
 
       pub climbed : Climbing K z (suc h) ws m' o
       unfolding many
@@ -121,7 +111,7 @@ module _ {E : Type 0} (K : Layout E) (lw : Lawful K) where
       whole = rw reads (deleted (before K f 0 ws) items (behind K f 0 ws) a (omega (arith, d.inside)) ∙ at_place);
       sound = (there, rw reads (omega (arith, d.sound.1)));
       fewer = rw reads (omega arith);
-      risen = go o q.risen;
+      risen = risen_of K 0 b m' (entry_of_leaf K b rest) (half K.leaf_cap) (length rest) refl (ap length reads) refl (λ l. one_leaf K m'.block b rest there reads l (omega (arith, d.sound.1))) o q.risen q.full;
     }
       where
         read : Ran rd.times (hit b) (hit b) z.memory m
@@ -138,7 +128,3 @@ module _ {E : Type 0} (K : Layout E) (lw : Lawful K) where
 
         at_place : take (length (before K f 0 ws) + a) (before K f 0 ws ++ (items ++ behind K f 0 ws)) ++ drop (suc (length (before K f 0 ws) + a)) (before K f 0 ws ++ (items ++ behind K f 0 ws)) ≡ z.goal
         at_place = rw (← d.place, ← (seen K f 0 b ws z.level z.top d.path).contents_seen) (sym goal)
-
-        go : (x : Option Child) → MatchOption x (length rest < half K.leaf_cap) (λ k. (k ≡ entry_of_leaf K b rest) × (half K.leaf_cap ≤ length rest)) → Risen K 0 m' b x
-        go None l = rw reads l
-        go (Some k) x = (ap (λ (y : Child). y.block) x.0, subst (ChildOk K 0 m'.block) (sym x.0) (one_leaf K m'.block b rest there reads x.1 (omega (arith, d.sound.1))))

@@ -13,10 +13,13 @@ use page::level::leaves::Leaves;
 use page::level::nodes::Nodes;
 
 pub trait Tier: Level {
+    // the heights at which such pages stand, leaves having 0
     ghost at: { ℕ → Type 0 };
 
+    // two neighbours there can share
     ghost sharable: { (h a b : ℕ) (m : Memory) → at h → Neighbours Self.Kind.layout h a b m → Sharable Self.read Self.most a b m Self.items_under };
 
+    // and they are one or two trees then, with the same items
     ghost shared: { (h a b : ℕ) (m m' : Memory) (r : Risen) → at h → Neighbours Self.Kind.layout h a b m → Above Self.read Self.most a b m share_asks Self.entry r m' → Shared Self.Kind.layout share_asks h a b m (risen_list r) m' };
 }
 

@@ -1,5 +1,5 @@
 // A level of the climb: what is below a node is put right, and the node is written.
-ghost use Rattle.std.specs.Prelude.{◌≡◌, ℕ, suc, ◌+◌, ◌-◌, ◌<◌, ◌≤◌, T, ◌++◌, IfSome, take, drop, length, slice_index_or};
+ghost use Rattle.std.specs.Prelude.{◌≡◌, ℕ, suc, ◌+◌, ◌-◌, ◌<◌, ◌≤◌, T, ◌++◌, IfSome, take, drop, length, slice_index_or, slice_set};
 ghost use Rattle.page.specs.Sizes.{page_limit};
 ghost use Rattle.tree.specs.Climb.{risen_list};
 ghost use Rattle.tree.specs.Paths.{none};
@@ -55,6 +55,15 @@ fn left_of(place: u32) -> usize
     place.saturating_sub(1) as usize
 }
 
+// What stands above the child at `place` now.
+fn enter<K: Kind>(page: &mut Page<K::Node>, place: u32, entry: Child)
+    requires there { place < length page.old }
+    requires valid { T (K.Node.Codec.valid entry) }
+    ensures { page.new ≡ slice_set page.old place entry }
+{
+    page.replace(place as usize, entry);
+}
+
 // The node, with what is below it put right: its child at the branch's place changed.
 fn put_right<L: Tier, W: Store>(
     m: &mut W::Memory,
@@ -66,8 +75,8 @@ fn put_right<L: Tier, W: Store>(
 {
     let mut page = load_page::<Nodes<L::Kind>, W>(m, node.block);
     match risen {
-        Some(entry) => page.replace(node.place as usize, entry),
-        None => mend::<L, W>(m, &mut page, left_of(node.place)),
+        Some(entry) => enter::<L::Kind>(&mut page, node.place, entry),
+        None => mend::<L, W, M>(m, &mut page, left_of(node.place)),
     }
     page
 }

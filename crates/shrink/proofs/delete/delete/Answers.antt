@@ -3,7 +3,7 @@ use Rattle.seek.specs.declared.target.Target.TheVariants.{Item}
 use Rattle.tree.proofs.Imaging.{few_entries}
 use Rattle.seek.proofs.Landing.{tall_some, leaf_stored, leaf_few, leaf_inside}
 use Rattle.seek.proofs.Readings.{reading_stored}
-use Rattle.shrink.proofs.Deletes.{start, code_begun, code_topmost, code_deleted}
+use Rattle.shrink.proofs.Deletes.{climb_start, climb_top, climb_done}
 use Rattle.shrink.proofs.delete.delete.Goals as goal
 
 pub descend-reached-requires-clause-tall : goal.descend-reached-requires-clause-tall
@@ -31,38 +31,18 @@ put-risen-requires-clause-counted g c =
 
 pub climb-top-requires : goal.climb-top-requires
 climb-top-requires g c =
-    let K = g.K.Kind.layout in
-    let lw = g.met.K.Kind.lawful in
-    let wide = g.met.K.Kind.wide in
-    let narrow = few_entries K.leaf_cap _ 62 g.met.K.Leaf.Codec.some g.met.K.Kind.leafFits in
-    let m = g.W.Store.memory c.args.m.now in (
-      start K lw wide narrow m c.args.t c.args.at c.requires.lies c.requires.place c.requires.asks,
-      code_begun K lw wide narrow m c.args.t c.args.at c.requires.lies c.requires.place c.requires.asks _ _ _ _ c.descend-reached.ensures c.load_page-page.ensures.same
-          _ _ _ c.load_page-page.ensures.after c.remove-item.ensures.after c.put-risen.ensures,
-    )
+    let narrow = few_entries g.K.Kind.layout.leaf_cap _ 62 g.met.K.Leaf.Codec.some g.met.K.Kind.leafFits in
+    (_, climb_start g.met.K.Kind.lawful g.met.K.Kind.wide narrow c.requires.lies c.requires.place c.requires.asks c.descend-reached.ensures c.load_page-page.ensures.same c.load_page-page.ensures.after c.remove-item.ensures.after c.put-risen.ensures)
 
 pub trim-requires : goal.trim-requires
 trim-requires g c =
-    let K = g.K.Kind.layout in
-    let lw = g.met.K.Kind.lawful in
-    let wide = g.met.K.Kind.wide in
-    let narrow = few_entries K.leaf_cap _ 62 g.met.K.Leaf.Codec.some g.met.K.Kind.leafFits in
-    let m = g.W.Store.memory c.args.m.now in
-    let z = start K lw wide narrow m c.args.t c.args.at c.requires.lies c.requires.place c.requires.asks in
-    let v = code_begun K lw wide narrow m c.args.t c.args.at c.requires.lies c.requires.place c.requires.asks _ _ _ _ c.descend-reached.ensures c.load_page-page.ensures.same
-    _ _ _ c.load_page-page.ensures.after c.remove-item.ensures.after c.put-risen.ensures in
-    (z, code_topmost K lw wide narrow m c.args.t c.args.at c.requires.lies c.requires.place c.requires.asks _ _ _ (g.W.Store.memory c.put-risen.new.m) c.descend-reached.ensures c.load_page-page.ensures.same _ _ (c.climb-top.ensures z v))
+    let narrow = few_entries g.K.Kind.layout.leaf_cap _ 62 g.met.K.Leaf.Codec.some g.met.K.Kind.leafFits in
+    let v = climb_start g.met.K.Kind.lawful g.met.K.Kind.wide narrow c.requires.lies c.requires.place c.requires.asks c.descend-reached.ensures c.load_page-page.ensures.same c.load_page-page.ensures.after c.remove-item.ensures.after c.put-risen.ensures in
+    (_, climb_top g.met.K.Kind.lawful g.met.K.Kind.wide narrow c.requires.lies c.requires.place c.requires.asks c.descend-reached.ensures c.load_page-page.ensures.same c.load_page-page.ensures.after (c.climb-top.ensures _ v))
 
 pub returns : goal.returns
 returns g c =
-    let K = g.K.Kind.layout in
-    let lw = g.met.K.Kind.lawful in
-    let wide = g.met.K.Kind.wide in
-    let narrow = few_entries K.leaf_cap _ 62 g.met.K.Leaf.Codec.some g.met.K.Kind.leafFits in
-    let m = g.W.Store.memory c.args.m.now in
-    let z = start K lw wide narrow m c.args.t c.args.at c.requires.lies c.requires.place c.requires.asks in
-    let v = code_begun K lw wide narrow m c.args.t c.args.at c.requires.lies c.requires.place c.requires.asks _ _ _ _ c.descend-reached.ensures c.load_page-page.ensures.same
-    _ _ _ c.load_page-page.ensures.after c.remove-item.ensures.after c.put-risen.ensures in
-    let w = code_topmost K lw wide narrow m c.args.t c.args.at c.requires.lies c.requires.place c.requires.asks _ _ _ (g.W.Store.memory c.put-risen.new.m) c.descend-reached.ensures c.load_page-page.ensures.same _ _ (c.climb-top.ensures z v) in
-    code_deleted K lw wide narrow m c.args.t c.args.at c.requires.lies c.requires.place c.requires.asks _ _ _ (g.W.Store.memory c.put-risen.new.m) c.descend-reached.ensures c.load_page-page.ensures.same
-    _ _ c.trim.result _ c.load_page-page.ensures.after c.remove-item.ensures.value (c.trim.ensures z w)
+    let narrow = few_entries g.K.Kind.layout.leaf_cap _ 62 g.met.K.Leaf.Codec.some g.met.K.Kind.leafFits in
+    let v = climb_start g.met.K.Kind.lawful g.met.K.Kind.wide narrow c.requires.lies c.requires.place c.requires.asks c.descend-reached.ensures c.load_page-page.ensures.same c.load_page-page.ensures.after c.remove-item.ensures.after c.put-risen.ensures in
+    let w = climb_top g.met.K.Kind.lawful g.met.K.Kind.wide narrow c.requires.lies c.requires.place c.requires.asks c.descend-reached.ensures c.load_page-page.ensures.same c.load_page-page.ensures.after (c.climb-top.ensures _ v) in
+    climb_done g.met.K.Kind.lawful g.met.K.Kind.wide narrow c.requires.lies c.requires.place c.requires.asks c.descend-reached.ensures c.load_page-page.ensures.same c.load_page-page.ensures.after c.remove-item.ensures.value (c.trim.ensures _ w)

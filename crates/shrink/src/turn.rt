@@ -76,7 +76,7 @@ fn put_right<L: Tier, W: Store>(
     let mut page = load_page::<Nodes<L::Kind>, W>(m, node.block);
     match risen {
         Some(entry) => enter::<L::Kind>(&mut page, node.place, entry),
-        None => mend::<L, W, M>(m, &mut page, left_of(node.place)),
+        None => mend::<L, W>(m, &mut page, left_of(node.place)),
     }
     page
 }

@@ -41,22 +41,22 @@ pub trait Kind {
 
     ghost lawful: { Lawful layout };
 
-    ghost leafFits: { layout.leaf_cap * Self.Leaf.Codec.width ≤ block_room };
+    ghost leaf_fits: { layout.leaf_cap * Self.Leaf.Codec.width ≤ block_room };
 
-    ghost nodeFits: { layout.node_cap * Self.Node.Codec.width ≤ block_room };
+    ghost node_fits: { layout.node_cap * Self.Node.Codec.width ≤ block_room };
 
-    ghost itemsValid: { (x : Self.Item) → T (Self.Leaf.Codec.valid x) };
+    ghost items_valid: { (x : Self.Item) → T (Self.Leaf.Codec.valid x) };
 
-    ghost entriesValid: { (n b : ℕ) (xs : List Self.Item) → T (Self.Node.Codec.valid (record { count = n; block = b; summary = layout.summary xs })) };
+    ghost entries_valid: { (n b : ℕ) (xs : List Self.Item) → T (Self.Node.Codec.valid (record { count = n; block = b; summary = layout.summary xs })) };
 
-    ghost keepsValid: { (n b : ℕ) (x : Child) → T (Self.Node.Codec.valid x) → T (Self.Node.Codec.valid (record { count = n; block = b; summary = x.summary })) };
+    ghost keeps_valid: { (n b : ℕ) (x : Child) → T (Self.Node.Codec.valid x) → T (Self.Node.Codec.valid (record { count = n; block = b; summary = x.summary })) };
 
-    ghost joinsValid: { (n b : ℕ) (x y : Child) → T (Self.Node.Codec.valid x) → T (Self.Node.Codec.valid y) → T (Self.Node.Codec.valid (record { count = n; block = b; summary = layout.join x.summary y.summary })) };
+    ghost joins_valid: { (n b : ℕ) (x y : Child) → T (Self.Node.Codec.valid x) → T (Self.Node.Codec.valid y) → T (Self.Node.Codec.valid (record { count = n; block = b; summary = layout.join x.summary y.summary })) };
 
     // where a child's count and block stand in its entry
-    ghost countAt: { (ws : List ℕ) → (Self.Node.Codec.decode ws).count ≡ slice_index ws 0 };
+    ghost count_at: { (ws : List ℕ) → (Self.Node.Codec.decode ws).count ≡ slice_index ws 0 };
 
-    ghost blockAt: { (ws : List ℕ) → (Self.Node.Codec.decode ws).block ≡ slice_index ws 1 };
+    ghost block_at: { (ws : List ℕ) → (Self.Node.Codec.decode ws).block ≡ slice_index ws 1 };
 
     ghost wide: { 20 ≤ layout.node_cap };
 }

@@ -1,4 +1,4 @@
-// The numbers of the calls, in the order of `Op`.
+// The numbers of the calls, in the order of `Op`. Numbers, since C passes them; an enum would need a second table, to them and back.
 pub(crate) const ROW: u32 = 0;
 
 pub(crate) const TABLE: u32 = 1;

@@ -22,7 +22,7 @@ impl Things {
         self.slot(n)?.ok_or(Reason::Absent)
     }
 
-    // The row under n.
+    // The row under n. Not one function with find_table: which variant is wanted can't be a parameter.
     pub(crate) fn find_row(&self, n: u32) -> Result<Tree, Reason>
         ensures { result ≡ row_at n self.now }
     {

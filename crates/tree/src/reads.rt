@@ -42,6 +42,7 @@ pub fn number_of_children<K: Kind, W: Store>(m: &mut W::Memory, b: u32) -> u32
     number_of_entries::<W>(m, b) as u32
 }
 
+// Not one function with child_block: another word is read, and another law of the kind says what stands there.
 // How many items are under child i of the node at block b.
 pub fn child_count<K: Kind, W: Store>(m: &mut W::Memory, b: u32, i: u32) -> u64
     requires asks { 0 < (W.Store.memory m.old).left }

@@ -8,7 +8,7 @@ use crate::child::Child;
 use crate::sizes::WORDS;
 
 // The children of a row's node.
-pub struct RowChildren {}
+pub struct RowChildren;
 
 impl Codec for RowChildren {
     type Item = Child;
@@ -50,7 +50,7 @@ impl Codec for RowChildren {
 }
 
 // The children of a table's node.
-pub struct TableChildren {}
+pub struct TableChildren;
 
 impl Codec for TableChildren {
     type Item = Child;

@@ -8,7 +8,7 @@ use crate::entry::Pair;
 use crate::sizes::WORDS;
 
 // The words of a row.
-pub struct Words {}
+pub struct Words;
 
 impl Codec for Words {
     type Item = u64;
@@ -45,7 +45,7 @@ impl Codec for Words {
 }
 
 // The pairs of a table.
-pub struct Pairs {}
+pub struct Pairs;
 
 impl Codec for Pairs {
     type Item = Pair;

@@ -10,7 +10,7 @@ use crate::entry::Pair;
 use crate::page::Page;
 use crate::sizes::{TABLE_LEAF, TABLE_NODE};
 
-pub struct Tables {}
+pub struct Tables;
 
 impl Kind for Tables {
     type Item = Pair;
@@ -27,21 +27,21 @@ impl Kind for Tables {
 
     ghost lawful = { Prim.search rules };
 
-    ghost leafFits = { Prim.search rules };
+    ghost leaf_fits = { Prim.search rules };
 
-    ghost nodeFits = { Prim.search rules };
+    ghost node_fits = { Prim.search rules };
 
-    ghost itemsValid = { Prim.search rules };
+    ghost items_valid = { Prim.search rules };
 
-    ghost entriesValid = { Prim.search rules };
+    ghost entries_valid = { Prim.search rules };
 
-    ghost keepsValid = { Prim.search rules };
+    ghost keeps_valid = { Prim.search rules };
 
-    ghost joinsValid = { Prim.search rules };
+    ghost joins_valid = { Prim.search rules };
 
-    ghost countAt = { Prim.search rules };
+    ghost count_at = { Prim.search rules };
 
-    ghost blockAt = { Prim.search rules };
+    ghost block_at = { Prim.search rules };
 
     ghost wide = { Prim.search rules };
 

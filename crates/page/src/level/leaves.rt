@@ -28,7 +28,7 @@ impl<K: Kind> Level for Leaves<K> {
 
     ghost reads = { K.leaves };
 
-    ghost fits = { K.leafFits };
+    ghost fits = { K.leaf_fits };
 
     ghost wide = { K.lawful.leaf_room };
 

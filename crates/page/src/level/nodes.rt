@@ -29,7 +29,7 @@ impl<K: Kind> Level for Nodes<K> {
 
     ghost reads = { K.nodes };
 
-    ghost fits = { K.nodeFits };
+    ghost fits = { K.node_fits };
 
     ghost wide = { Prim.search rules };
 

@@ -26,6 +26,7 @@ impl<C: Codec> Page<C> {
         self.len
     }
 
+    // By its number: entries are read out of words, so there is no slice of them to go over.
     pub fn get(&self, at: usize) -> C::Item
         requires { at < length self.now }
         ensures value { (d : C.Item) → result ≡ slice_index_or self.now at d }

@@ -13,7 +13,7 @@ use Rattle.grow.proofs.insert.insert_below.Goals as goal
 call : (g : given.Over) (t : Tree) (at : ℕ) (x : g.row.K-Item.Denot) (m : Memory) → Lies g.K.Kind.layout m t → 0 < t.height → insert_asks ≤ m.left → Insertion g.K.Kind.layout t at x m
 call g t at x m lies tall ample = record {
   lawful = g.met.K.Kind.lawful;
-  thin = few_entries g.K.Kind.layout.leaf_cap g.K.Leaf.Codec.width 62 g.met.K.Leaf.Codec.some g.met.K.Kind.leafFits;
+  thin = few_entries g.K.Kind.layout.leaf_cap g.K.Leaf.Codec.width 62 g.met.K.Leaf.Codec.some g.met.K.Kind.leaf_fits;
   wide = g.met.K.Kind.wide;
   lies = lies;
   tall = tall;

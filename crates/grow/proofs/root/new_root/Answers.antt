@@ -6,10 +6,10 @@ pub overflow_cast-result : goal.overflow_cast-result
 overflow_cast-result g c = record { fits = omega (arith, low_block _ _ _ _ _ c.requires.rises.1) }
 
 pub node_above-requires-clause-one_valid : goal.node_above-requires-clause-one_valid
-node_above-requires-clause-one_valid g c = (can_write _ _ _ _ _ c.requires.rises.1 g.K.Node.Codec.valid g.met.K.Kind.entriesValid _ c.in-Some.is).0
+node_above-requires-clause-one_valid g c = (can_write _ _ _ _ _ c.requires.rises.1 g.K.Node.Codec.valid g.met.K.Kind.entries_valid _ c.in-Some.is).0
 
 pub node_above-requires-clause-other_valid : goal.node_above-requires-clause-other_valid
-node_above-requires-clause-other_valid g c = (can_write _ _ _ _ _ c.requires.rises.1 g.K.Node.Codec.valid g.met.K.Kind.entriesValid _ c.in-Some.is).1
+node_above-requires-clause-other_valid g c = (can_write _ _ _ _ _ c.requires.rises.1 g.K.Node.Codec.valid g.met.K.Kind.entries_valid _ c.in-Some.is).1
 
 pub node_above-requires-clause-some : goal.node_above-requires-clause-some
 node_above-requires-clause-some g c = spare _ _ _ _ _ c.requires.rises.1 _ c.in-Some.is

@@ -19,7 +19,7 @@ total-requires-clause-few g c = (top_node g.K.Kind.layout _ _ _ (omega arith) c.
 
 pub total-requires-clause-low : goal.total-requires-clause-low
 total-requires-clause-low g c =
-    let few = few_entries g.K.Kind.layout.leaf_cap g.K.Leaf.Codec.width 62 g.met.K.Leaf.Codec.some g.met.K.Kind.leafFits in
+    let few = few_entries g.K.Kind.layout.leaf_cap g.K.Leaf.Codec.width 62 g.met.K.Leaf.Codec.some g.met.K.Kind.leaf_fits in
     let tall : 2 ≤ c.args.t.height = omega arith in
     omega (arith, (top_node g.K.Kind.layout _ _ _ tall c.requires.lies.stands).counted, tall_low g.K.Kind.layout _ _ _ few c.requires.lies.stands c.requires.lies.once)
 

@@ -26,23 +26,23 @@ put-risen-requires-clause-few g c = omega (arith, leaf_few g.K.Kind.layout _ _ _
 
 pub put-risen-requires-clause-counted : goal.put-risen-requires-clause-counted
 put-risen-requires-clause-counted g c =
-    let narrow = few_entries g.K.Kind.layout.leaf_cap _ 62 g.met.K.Leaf.Codec.some g.met.K.Kind.leafFits in
+    let narrow = few_entries g.K.Kind.layout.leaf_cap _ 62 g.met.K.Leaf.Codec.some g.met.K.Kind.leaf_fits in
     omega (arith, narrow, leaf_few g.K.Kind.layout _ _ _ _ Item _ c.descend-reached.ensures, ap length c.load_page-page.ensures.after, c.remove-item.ensures.len)
 
 pub climb-top-requires : goal.climb-top-requires
 climb-top-requires g c =
-    let narrow = few_entries g.K.Kind.layout.leaf_cap _ 62 g.met.K.Leaf.Codec.some g.met.K.Kind.leafFits in
+    let narrow = few_entries g.K.Kind.layout.leaf_cap _ 62 g.met.K.Leaf.Codec.some g.met.K.Kind.leaf_fits in
     (_, climb_start g.met.K.Kind.lawful g.met.K.Kind.wide narrow c.requires.lies c.requires.place c.requires.asks c.descend-reached.ensures c.load_page-page.ensures.same c.load_page-page.ensures.after c.remove-item.ensures.after c.put-risen.ensures)
 
 pub trim-requires : goal.trim-requires
 trim-requires g c =
-    let narrow = few_entries g.K.Kind.layout.leaf_cap _ 62 g.met.K.Leaf.Codec.some g.met.K.Kind.leafFits in
+    let narrow = few_entries g.K.Kind.layout.leaf_cap _ 62 g.met.K.Leaf.Codec.some g.met.K.Kind.leaf_fits in
     let v = climb_start g.met.K.Kind.lawful g.met.K.Kind.wide narrow c.requires.lies c.requires.place c.requires.asks c.descend-reached.ensures c.load_page-page.ensures.same c.load_page-page.ensures.after c.remove-item.ensures.after c.put-risen.ensures in
     (_, climb_top g.met.K.Kind.lawful g.met.K.Kind.wide narrow c.requires.lies c.requires.place c.requires.asks c.descend-reached.ensures c.load_page-page.ensures.same c.load_page-page.ensures.after (c.climb-top.ensures _ v))
 
 pub returns : goal.returns
 returns g c =
-    let narrow = few_entries g.K.Kind.layout.leaf_cap _ 62 g.met.K.Leaf.Codec.some g.met.K.Kind.leafFits in
+    let narrow = few_entries g.K.Kind.layout.leaf_cap _ 62 g.met.K.Leaf.Codec.some g.met.K.Kind.leaf_fits in
     let v = climb_start g.met.K.Kind.lawful g.met.K.Kind.wide narrow c.requires.lies c.requires.place c.requires.asks c.descend-reached.ensures c.load_page-page.ensures.same c.load_page-page.ensures.after c.remove-item.ensures.after c.put-risen.ensures in
     let w = climb_top g.met.K.Kind.lawful g.met.K.Kind.wide narrow c.requires.lies c.requires.place c.requires.asks c.descend-reached.ensures c.load_page-page.ensures.same c.load_page-page.ensures.after (c.climb-top.ensures _ v) in
     climb_done g.met.K.Kind.lawful g.met.K.Kind.wide narrow c.requires.lies c.requires.place c.requires.asks c.descend-reached.ensures c.load_page-page.ensures.same c.load_page-page.ensures.after c.remove-item.ensures.value (c.trim.ensures _ w)

@@ -20,7 +20,7 @@ mend-requires-clause-there g c = code_inside g.met.L.Kind.Kind.lawful c.requires
 
 pub mend-requires-clause-few : goal.mend-requires-clause-few
 mend-requires-clause-few g c =
-    let most = few_entries g.L.Kind.Kind.layout.node_cap _ 62 g.met.L.Kind.Node.Codec.some g.met.L.Kind.Kind.nodeFits in
+    let most = few_entries g.L.Kind.Kind.layout.node_cap _ 62 g.met.L.Kind.Node.Codec.some g.met.L.Kind.Kind.node_fits in
     rw c.load_page-page.ensures.after (omega (arith, most, turn_few g.met.L.Kind.Kind.lawful c.requires.1))
 
 pub mend-requires-clause-next : goal.mend-requires-clause-next

@@ -6,7 +6,7 @@ use Rattle.tree.proofs.reads.child_block.Goals as goal
 nodes : (g : given.Over) → Nodes g.K.Kind.layout g.K.Node.Codec.width
 nodes g =
     nodes_read _ _ g.K.Node.Codec.decode g.K.Node.Codec.encode g.K.Node.Codec.valid g.met.K.Node.Codec.sized g.met.K.Node.Codec.back
-    g.met.K.Kind.entriesValid g.met.K.Kind.blockAt g.met.K.Kind.nodes g.met.K.Kind.countAt g.met.K.Kind.nodeFits
+    g.met.K.Kind.entries_valid g.met.K.Kind.block_at g.met.K.Kind.nodes g.met.K.Kind.count_at g.met.K.Kind.node_fits
 
 pub entry_word-word-requires : goal.entry_word-word-requires
 entry_word-word-requires g c = omega (arith, (nodes g).within c.args.i (omega (arith, c.requires.few, c.requires.inside)))

@@ -6,5 +6,5 @@ returns g c =
     let s = c.leaf_summary.ensures in
     record {
       value = cc (c.len.ensures.len, s);
-      valid = subst (λ k. T (g.K.Node.Codec.valid (record { count = c.len.result; block = c.args.block; summary = k }))) (sym s) (g.met.K.Kind.entriesValid c.len.result c.args.block c.args.page.now);
+      valid = subst (λ k. T (g.K.Node.Codec.valid (record { count = c.len.result; block = c.args.block; summary = k }))) (sym s) (g.met.K.Kind.entries_valid c.len.result c.args.block c.args.page.now);
     }

@@ -6,7 +6,7 @@ use Rattle.page.proofs.level.nodes.NodesLevel.entry.Goals as goal
 
 pub loop-i-init : goal.loop-i-init
 loop-i-init g c =
-    (sym (entry_one g.K.Kind.layout c.args.block c.args.page.now c.get-first.result (omega arith) c.get-first.ensures.value), g.met.K.Kind.keepsValid c.get-first.result.count c.args.block c.get-first.result c.get-first.ensures.valid)
+    (sym (entry_one g.K.Kind.layout c.args.block c.args.page.now c.get-first.result (omega arith) c.get-first.ensures.value), g.met.K.Kind.keeps_valid c.get-first.result.count c.args.block c.get-first.result c.get-first.ensures.valid)
 
 pub joined-all-requires : goal.joined-all-requires
 joined-all-requires g c =

@@ -39,6 +39,25 @@ impl<G: Blocks> Session<G> {
         }
     }
 
+    // Of things and a ground that fit.
+    pub fn of(things: Things, ground: G) -> Session<G>
+        requires { Ready things (G.Blocks.as_ground ground) }
+        ensures things { result.things ≡ things }
+        ensures ground { result.ground ≡ ground }
+    {
+        Session { things, ground }
+    }
+
+    // The things and their ground, which still fit.
+    pub fn into_parts(self) -> (Things, G)
+        ensures things { result.0 ≡ self.things }
+        ensures ground { result.1 ≡ self.ground }
+        ensures ready { Ready result.0 (G.Blocks.as_ground result.1) }
+    {
+        let Session { things, ground } = self;
+        (things, ground)
+    }
+
     // The ground, as it stands.
     pub fn ground(&self) -> &G
         ensures { result.now ≡ self.now.ground }

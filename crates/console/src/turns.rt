@@ -5,7 +5,7 @@ ghost use Rattle.console.specs.Turns.{Replied};
 
 use crate::session::Session;
 use ration::Ration;
-use script::{Line, Reply, parse};
+use script::{Line, NotALine, Reply};
 use things::{Blocks, Bounds};
 
 impl<B: Blocks + Bounds> Session<Ration<B>> {
@@ -13,18 +13,18 @@ impl<B: Blocks + Bounds> Session<Ration<B>> {
     pub fn reply(&mut self, text: &[u8], number: u64) -> Option<Reply>
         ensures replied { Replied B.Blocks.as_ground (line_of text.now) number self.old result self.new }
     {
-        match parse(text) {
-            Some(Line::Call(o)) => Some(Reply::Told(self.ask(o))),
-            Some(Line::Refuse(k)) => {
+        match Line::try_from(text) {
+            Ok(Line::Call(o)) => Some(Reply::Told(self.ask(o))),
+            Ok(Line::Refuse(k)) => {
                 self.ground.refuse(k);
                 None
             }
-            Some(Line::Room(n)) => {
+            Ok(Line::Room(n)) => {
                 self.ground.set_room(n);
                 None
             }
-            Some(Line::Held) => Some(Reply::Held(self.ground.many())),
-            None => Some(Reply::NotALine(number)),
+            Ok(Line::Held) => Some(Reply::Held(self.ground.many())),
+            Err(NotALine) => Some(Reply::NotALine(number)),
         }
     }
 }

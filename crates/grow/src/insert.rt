@@ -25,9 +25,7 @@ fn plant<K: Kind, W: Store>(m: &mut W::Memory, x: K::Item) -> Result<Tree, NoRoo
     requires room { (W.Store.memory m.old).many < (W.Store.memory m.old).top }
     ensures { MatchResult result (λ t. Planted K.Kind.layout x (W.Store.memory m.old) t (W.Store.memory m.new)) (λ _. Undone insert_undone (W.Store.memory m.old) (W.Store.memory m.new)) }
 {
-    let Some(fresh) = Fresh::obtain::<W>(m) else {
-        return Err(NoRoom);
-    };
+    let fresh = Fresh::obtain::<W>(m)?;
     let mut page = Page::new();
     page.push(x);
     let root = fresh.into_block();

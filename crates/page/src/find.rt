@@ -1,4 +1,4 @@
-// Which child of a node an item or a gap between items is under.
+// Which child of a node an item or a gap between items is under, of a page in local memory. The trees read a node's counts where they lie: seek's choose_child.
 ghost use Rattle.std.specs.Prelude.{◌≡◌, ℕ, ◌+◌, ◌<◌, ◌≤◌, take, slice_index_or, length};
 ghost use Rattle.page.specs.declared.child.Child.{Child};
 ghost use Rattle.page.specs.Layout.{counts};

@@ -13,7 +13,7 @@ mod images;
 mod moves;
 mod splices;
 
-// Words and how many entries they hold: an array of C's items can't be a field here, as the size of a generic struct would be owed by every call.
+// Words and how many entries they hold. No Vec, since nothing may be allocated; and no array of C's items, since each call would owe that such an array is not too large.
 #[derive(Drop)]
 pub struct Page<C: Codec> {
     words: [u64; WORDS],

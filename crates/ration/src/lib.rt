@@ -16,7 +16,7 @@ pub struct Ration<B> {
     inner: B,
     // The ration's own: the ground below is allowed one asking each time that it is asked, so nothing has to tie its count to this one.
     meter: Meter,
-    // How many gettings of the next call go through before one is refused, and how many more of this call.
+    // How many gettings go through before the one that is refused: of the next call, and of this one from now on.
     pending: Option<u64>,
     due: Option<u64>,
     // While so many blocks are held, every getting is refused.

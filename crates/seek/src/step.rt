@@ -1,6 +1,4 @@
-// A step down from a node.
-
-// A child, its block, a place among the items under it, and how many children the node has.
+// A step down from a node: a child, its block, a place among the items under it, and how many children the node has.
 #[derive(Clone, Copy)]
 pub struct Step {
     pub child: u32,

@@ -5,6 +5,6 @@ mod climb;
 pub mod delete;
 pub mod put;
 pub mod share;
-mod tier;
+pub mod tier;
 mod trim;
 mod turn;

@@ -1,9 +1,10 @@
 // A block that was got and is in no tree yet: it is given back or becomes part of a tree, and is never dropped.
-ghost use Rattle.std.specs.Prelude.{◌≡◌, ◌<◌, MatchOption};
+ghost use Rattle.std.specs.Prelude.{◌≡◌, ◌<◌, MatchResult};
 ghost use Rattle.store.specs.Memory.{Stored, refused};
 ghost use Rattle.store.specs.Fresh.{Obtained, Returned};
 
 use crate::Store;
+use crate::gather::NoRoom;
 
 // It is not `Drop`, so no code can let it go.
 pub struct Fresh {
@@ -19,14 +20,13 @@ impl Fresh {
         Fresh { number }
     }
 
-    // None: the memory refused.
-    pub fn obtain<W: Store>(m: &mut W::Memory) -> Option<Fresh>
+    pub fn obtain<W: Store>(m: &mut W::Memory) -> Result<Fresh, NoRoom>
         requires asks { 0 < (W.Store.memory m.old).left }
         requires room { (W.Store.memory m.old).many < (W.Store.memory m.old).top }
-        ensures { MatchOption result (W.Store.memory m.new ≡ refused (W.Store.memory m.old)) (λ f. Obtained (W.Store.memory m.old) f.number (W.Store.memory m.new)) }
+        ensures { MatchResult result (λ f. Obtained (W.Store.memory m.old) f.number (W.Store.memory m.new)) (λ _. W.Store.memory m.new ≡ refused (W.Store.memory m.old)) }
     {
-        let number = W::obtain(m)?;
-        Some(Fresh::new(number))
+        let number = W::obtain(m).ok_or(NoRoom)?;
+        Ok(Fresh::new(number))
     }
 
     pub fn give_back<W: Store>(self, m: &mut W::Memory)

@@ -20,11 +20,13 @@ pub fn reserve<W: Store>(m: &mut W::Memory, n: usize) -> Result<Reserve, NoRoom>
 {
     let mut got = Reserve::new();
     for _ in 0..n {
-        let Some(f) = Fresh::obtain::<W>(m) else {
-            give_all::<W>(got, m);
-            return Err(NoRoom);
-        };
-        got.push(f);
+        match Fresh::obtain::<W>(m) {
+            Ok(f) => got.push(f),
+            Err(refused) => {
+                give_all::<W>(got, m);
+                return Err(refused);
+            }
+        }
     }
     Ok(got)
 }

@@ -10,8 +10,8 @@ pub mod reserve;
 pub mod words;
 
 // Memory of blocks of 64 words, held in a value of another type. Each call is one asking.
-// Not methods of that type: an impl for all types with a trait of another crate is refused, and what is known of
-// a value is lost in a struct that holds a `&mut` to it.
+// Not methods of that type: `things` couldn't give them to all its grounds, since this trait is of another crate;
+// and a struct that holds a `&mut` to a ground would have to say after each call that it is still the same one.
 pub trait Store {
     type Memory;
 

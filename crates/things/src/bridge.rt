@@ -6,7 +6,7 @@ use crate::Blocks;
 use std::marker::PhantomData;
 use store::Store;
 
-// It has no value: an impl of Store for B itself is refused, since Store is of another crate, and an adapter that holds a `&mut B` loses what is known of it.
+// It has no value. An impl of Store for B itself is refused, since Store is of another crate; an adapter that holds a `&mut B` would have to say after each call that it is still the same one.
 pub struct Ours<B> {
     of: PhantomData<B>,
 }

@@ -22,7 +22,7 @@ impl Things {
         self.slot(n)?.ok_or(Reason::Absent)
     }
 
-    // The row under n. Not one function with find_table: which variant is wanted can't be a parameter.
+    // The row under n. Not one function with find_table, which nothing calls yet: what tells the variants apart would be a function more.
     pub(crate) fn find_row(&self, n: u32) -> Result<Tree, Reason>
         ensures { result ≡ row_at n self.now }
     {

@@ -7,7 +7,7 @@ ghost use Rattle.things.specs.Reasons.{refusal};
 use crate::Answer;
 use store::gather::NoRoom;
 
-#[derive(Clone, Copy)]
+#[derive(Clone, Copy, Debug, PartialEq, Eq)]
 pub enum Reason {
     NoName,
     Taken,

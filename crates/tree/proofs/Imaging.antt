@@ -1,5 +1,5 @@
 -- A page is read from the words of a block that it uses, and written to them.
-use Rattle.std.proofs.Common.{◌≡◌, ℕ, ◌+◌, ◌*◌, ◌<◌, ◌≤◌, List, ◌++◌, length, get_or, take, drop, sym, ap, ◌∙◌, subst, mul-le-mul_left, mul-le-mul_right, mul-one, zero-add, arith, length-append, length-drop, length-take-le, get_or-take}
+use Rattle.std.proofs.Common.{◌≡◌, ℕ, ◌+◌, ◌*◌, ◌<◌, ◌≤◌, List, ◌++◌, length, get_or, take, drop, sym, ap, ◌∙◌, subst, mul-le-mul_left, mul-le-mul_right, mul-one, mul_comm, zero-add, arith, length-append, length-drop, length-take-le, get_or-take}
 use Rattle.std.proofs.lemmas.List.{drop-take, take-take, take-append-le}
 use lib.Seq.{paste}
 use Rattle.page.specs.Layout.{imaged}
@@ -9,6 +9,7 @@ use Rattle.store.specs.Steps.{Ran, hit}
 use Rattle.store.proofs.Memories.{asked_then}
 use Rattle.store.proofs.Running.{ran_wrote, ran_more}
 use Rattle.tree.specs.Pages.{page_asks, Reading, Writing}
+use Rattle.tree.specs.Reads.{word_of_entry}
 
 -- entries have a word at least, so there are no more of them than words
 pub few_entries : (n w k : ℕ) → 0 < w → n * w ≤ k → n ≤ k
@@ -20,6 +21,10 @@ same_word k xs ys i l e = sym (get_or-take k xs i 0 l) ∙ ap (λ (zs : List ℕ
 
 pub same_part : (a k : ℕ) (xs ys : List ℕ) → take (a + k) xs ≡ take (a + k) ys → take k (drop a xs) ≡ take k (drop a ys)
 same_part a k xs ys e = sym (drop-take a k xs) ∙ ap (drop a) e ∙ drop-take a k ys
+
+-- where the words of n entries end
+pub words_of : (w n v : ℕ) → v ≡ word_of_entry w n → v ≡ 2 + n * w
+words_of w n v e = omega (arith, e, mul_comm n w)
 
 -- written from the first word on
 pub paste_front : (n : ℕ) (d s : List ℕ) → paste d 0 s n ≡ take n s ++ drop n d

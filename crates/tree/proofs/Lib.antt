@@ -25,3 +25,4 @@ pub mod Keying
 pub mod KeyPaths
 pub mod Words
 pub mod Imaged
+pub mod Turns

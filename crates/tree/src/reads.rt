@@ -22,9 +22,9 @@ pub fn number_of_entries<W: Store>(m: &mut W::Memory, b: u32) -> u64
     W::get(m, b, ENTRIES)
 }
 
-// The word in which entry i begins.
+// The word in which entry i begins, or ends the one before.
 pub fn entry_word<C: Codec>(i: u32) -> u32
-    requires { word_of_entry C.Codec.width i < 64 }
+    requires { word_of_entry C.Codec.width i ≤ 64 }
     ensures { result ≡ word_of_entry C.Codec.width i }
 {
     HEAD as u32 + C::width() as u32 * i
@@ -42,8 +42,7 @@ pub fn number_of_children<K: Kind, W: Store>(m: &mut W::Memory, b: u32) -> u32
     number_of_entries::<W>(m, b) as u32
 }
 
-// Not one function with child_block: another word is read, and another law of the kind says what stands there.
-// How many items are under child i of the node at block b.
+// How many items are under child i of the node at block b. Not one function with child_block: another word is read, and another law of the kind says what stands there.
 pub fn child_count<K: Kind, W: Store>(m: &mut W::Memory, b: u32, i: u32) -> u64
     requires asks { 0 < (W.Store.memory m.old).left }
     requires there { Stored (W.Store.memory m.old).block b }

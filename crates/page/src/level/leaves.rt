@@ -1,5 +1,5 @@
 // Leaves: their entries are items.
-ghost use Rattle.std.specs.Prelude.{length, refl};
+ghost use Rattle.std.specs.Prelude.{◌≡◌, ◌<◌, ℕ, T, length, refl};
 ghost use Rattle.page.specs.Layout.{entry_of_leaf};
 ghost use Rattle.std.proofs.Common.{length-append};
 
@@ -41,10 +41,19 @@ impl<K: Kind> Level for Leaves<K> {
     }
 
     fn entry(block: u64, page: &Page<K::Leaf>) -> Child {
-        Child {
-            count: page.len() as u64,
-            block,
-            summary: K::leaf_summary(page),
-        }
+        leaf_entry::<K>(block, page)
+    }
+}
+
+// Of a leaf at `block`: its items are never too many to be counted.
+pub fn leaf_entry<K: Kind>(block: u64, page: &Page<K::Leaf>) -> Child
+    requires { 0 < length page.now }
+    ensures value { result ≡ entry_of_leaf K.Kind.layout block page.now }
+    ensures valid { T (K.Node.Codec.valid result) }
+{
+    Child {
+        count: page.len() as u64,
+        block,
+        summary: K::leaf_summary(page),
     }
 }

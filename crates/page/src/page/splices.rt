@@ -82,6 +82,7 @@ impl<C: Codec> Page<C> {
         ensures len { length self.new ≡ length self.old - count }
         ensures after { self.new ≡ take at self.old ++ drop (at + count) self.old }
     {
+        // a page has at most 64 entries, which the proof learns here
         let _len = self.len();
         let upper = self.tail(at + count);
         self.truncate(at);

@@ -6,9 +6,9 @@ pub loop-init : goal.loop-init
 loop-init g c = rw c.new-got.ensures (reserved_none _)
 
 pub loop-preserved : goal.loop-preserved
-loop-preserved g c = rw c.push.ensures (reserved_more _ _ _ _ _ _ c.loop.invariant c.in-Some.ensures)
+loop-preserved g c = rw c.push.ensures (reserved_more _ _ _ _ _ _ c.loop.invariant c.in-Ok.ensures)
 
-pub returns-in_default : goal.returns-in_default
-returns-in_default g c =
+pub returns-in-Err : goal.returns-in-Err
+returns-in-Err g c =
     let p = c.loop.invariant in
-    refused_undone _ _ _ _ _ p c.in_default.ensures c.args.n _ (omega arith) (omega (arith, p.left)) c.give_all.ensures
+    refused_undone _ _ _ _ _ p c.in-Err.ensures c.args.n _ (omega arith) (omega (arith, p.left)) c.give_all.ensures

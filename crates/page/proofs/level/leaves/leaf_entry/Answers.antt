@@ -1,5 +1,5 @@
 use Rattle.std.proofs.Common.{T, sym, subst}
-use Rattle.page.proofs.level.leaves.LeavesLevel.entry.Goals as goal
+use Rattle.page.proofs.level.leaves.leaf_entry.Goals as goal
 
 pub returns : goal.returns
 returns g c =

@@ -1,10 +1,12 @@
 -- What stays true of a heap when a block is obtained or released, and what the ground is then. Assumes nothing.
-use Rattle.std.proofs.Common.{◌≡◌, ℕ, ◌+◌, ◌-◌, ◌<◌, ◌≤◌, Bool, cond, eqb, List, [], ◌∷◌, length, get_or, set, Some, sym, ap, ◌∙◌, subst, length-set, arith, not-suc-le-zero}
+use Rattle.std.proofs.Common.{◌≡◌, ℕ, ◌+◌, ◌-◌, ◌<◌, ◌≤◌, Bool, true, false, not, ◌||◌, cond, eqb, List, [], ◌∷◌, length, get_or, set, replicate, Option, Some, None, is_some, IfNone, IfSome, sym, refl, ap, ◌∙◌, subst, length-set, arith, not-suc-le-zero}
 use Rattle.std.proofs.lemmas.List.{nil_from_length}
-use Rattle.things.specs.Ground.{Obtains, got as gets, released, written}
+use Rattle.std.proofs.Math.Bool.{or-false, or-true}
+use Rattle.things.specs.Ground.{Obtains, got as gets, none as refuses, released, written}
 use Rattle.heap.specs.Sizes.{block_words, block_count}
 use Rattle.heap.specs.Owned.{held, ground_of}
 use Rattle.heap.specs.Kept.{Kept}
+use Rattle.heap.specs.State.{State, state_ground, block_at, with_block}
 use Rattle.heap.proofs.Grounds.{ground_is, block_set, lengths_same}
 use Rattle.heap.proofs.HeldCount.{held_more, held_less, held_same, below_length}
 use Rattle.heap.proofs.FreeList.{push_valid, push_unheld, push_distinct, pop_valid, pop_unheld, pop_distinct}
@@ -106,3 +108,16 @@ module _ (wss : List (List ℕ)) where
       let used : 0 < length (get_or wss b []) = omega arith in let within : b < length wss = below_length wss b used in
       let ws : List ℕ = set (get_or wss b []) i x in
       ground_is (λ c. get_or (set wss b ws) c []) (λ c. cond (eqb c b) ws (get_or wss c [])) (block_set wss b ws within) (held (set wss b ws)) (held wss) (held_same wss b ws (length-set (get_or wss b []) i x)) (l - 1) t y
+
+-- a heap s that counted an asking, and then acquired r, and noted whether it was refused
+module _ (s t : State) where
+  abbrev counted : State
+  counted = record s { left = s.left - 1 }
+
+  pub asked : (r : Option ℕ) (y : Bool) → is_some r ≡ not y → length s.words ≡ block_count
+      → IfNone r (t ≡ counted) → IfSome r (λ b. b < block_count) → IfSome r (λ b. length (block_at counted b) ≡ 0)
+      → IfSome r (λ b. t ≡ with_block counted b (replicate block_words 0)) → Obtains (state_ground s) r (state_ground (record t { failed = t.failed || y }))
+  asked None true e sized same number unheld block = rw (same, or-true s.failed) refuses
+  asked None false e sized same number unheld block = grind (arith, e)
+  asked (Some n) true e sized same number unheld block = grind (arith, e)
+  asked (Some n) false e sized same number unheld block = rw (block, or-false s.failed) (obtained s.words n (replicate block_words 0) sized number unheld refl s.left s.top s.failed)

@@ -1,26 +1,35 @@
 // A heap is blocks, and keeps the bounds that are set for whoever asks.
-ghost use Rattle.heap.specs.State.{state_ground};
+ghost use Rattle.std.specs.Prelude.{◌≡◌, ◌<◌, length, replicate, IfNone, IfSome};
+ghost use Rattle.heap.specs.Sizes.{block_words, block_count};
+ghost use Rattle.heap.specs.State.{state_ground, block_at, with_block};
 
 use crate::{BLOCKS, Heap, WORDS};
 use things::{Blocks, Bounds};
 
+impl Heap {
+    // A block of zeros that is held from now on; none when all blocks are held, or the allocator refuses.
+    fn acquire(&mut self) -> Option<u32>
+        ensures unchanged { IfNone result (self.new ≡ self.old) }
+        ensures number { IfSome result (λ b. b < block_count) }
+        ensures unheld { IfSome result (λ b. length (block_at self.old b) ≡ 0) }
+        ensures block { IfSome result (λ b. self.new ≡ with_block self.old b (replicate block_words 0)) }
+    {
+        if self.spare == 0 {
+            return None;
+        }
+        let block = Box::new(self.alloc, [0; WORDS]).ok()?;
+        Some(self.hold(block))
+    }
+}
+
 impl Blocks for Heap {
     ghost as_ground = { state_ground };
 
-    // Refuses when all blocks are held, and when the allocator does.
     fn obtain(&mut self) -> Option<u32> {
         self.left -= 1;
-        if self.spare == 0 {
-            self.failed = true;
-            return None;
-        }
-        match Box::new(self.alloc, [0; WORDS]) {
-            Ok(block) => Some(self.hold(block)),
-            Err(_) => {
-                self.failed = true;
-                None
-            }
-        }
+        let got = self.acquire();
+        self.failed |= got.is_none();
+        got
     }
 
     fn release(&mut self, b: u32) {

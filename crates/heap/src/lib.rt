@@ -15,20 +15,21 @@ use std::alloc::Global;
 use std::marker::Model;
 use std::rt::Memory;
 
-// The words of a block. specs/Sizes.antt has both sizes for the proofs, and the field `at` below spells them out.
+// The words of a block. specs/Sizes.antt has both sizes for the proofs.
 const WORDS: usize = 64;
 
 // How many blocks there are.
 const BLOCKS: usize = 1024;
 
 pub struct Heap {
-    // where block b lies, if b is held; else anything
+    // where block b lies, if b is held; else anything. The spelling of this field is fixed, so both sizes stand here as digits
     at: [*mut [u64; 64]; 1024],
+    // how often the heap may still be asked; how many blocks may be held; whether it refused. These three fields are fixed, so they are not a `meter::Meter`
     left: u64,
     top: u64,
     failed: bool,
     // the free list, a stack: its first `spare` numbers are those of the blocks that are not held.
-    // A type with push and pop would be no plainer: what it says changes at once with `words`, so `hold` and `let_go` would have to lend it for a call, by hand
+    // A type of its own with push and pop would be no plainer: it cannot see `words`, so the heap would still have to say that these blocks are not held, and the proofs by hand of `hold` and `let_go` would each get a call more
     free: [u32; BLOCKS],
     spare: usize,
     // the handle to the allocator

@@ -1,17 +1,11 @@
-use Rattle.std.proofs.Common.{◌≡◌, length, ap}
-use Rattle.things.specs.Ground.{none as refuses}
-use Rattle.heap.specs.Sizes.{block_words}
-use Rattle.heap.proofs.Turns.{obtained}
+use Rattle.std.proofs.Common.{◌||◌, sym, subst}
+use Rattle.things.specs.Ground.{Obtains}
+use Rattle.heap.specs.State.{State, state_ground}
+use Rattle.heap.proofs.Turns.{asked}
 use Rattle.heap.proofs.ground.HeapBlocks.obtain.Goals as goal
 
-pub returns-then-self-eq0 : goal.returns-then-self-eq0
-returns-then-self-eq0 c = rw (← c.self.view_is) refuses
-
-pub returns-in-Ok : goal.returns-in-Ok
-returns-in-Ok c =
-    let h = c.self.inside in
-    let full : length c.in-Ok.block.value ≡ block_words = ap length c.in-Ok.ensures.ok in
-    rw (c.hold.ensures.block, ← c.self.view_is) (obtained h.words c.hold.result c.in-Ok.block.value c.self.invariant.sized c.hold.ensures.number c.hold.ensures.unheld full h.left h.top h.failed)
-
-pub returns-in-Err : goal.returns-in-Err
-returns-in-Err c = rw (← c.self.view_is) refuses
+pub returns : goal.returns
+returns c =
+    let s = c.args.self.now in let a = c.acquire-got in let y = c.is_none.result in
+    subst (λ (t : State). Obtains (state_ground s) a.result (state_ground (record t { failed = t.failed || y }))) (sym c.self-2.view_is)
+    (rw (← c.self.view_is) (asked _ a.new.self a.result y c.is_none.ensures c.self.invariant.sized a.ensures.unchanged a.ensures.number a.ensures.unheld a.ensures.block))

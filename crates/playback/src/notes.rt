@@ -1,4 +1,4 @@
-// Notes that fill a lent slice.
+// Notes that fill a lent slice. The count stands beside it: C lends the memory, and a slice alone can't grow.
 ghost use Rattle.std.specs.Prelude.{◌≡◌, ◌+◌, ◌<◌, ◌≤◌, ◌↔◌, IsTrue, length, slice_set, take};
 
 use crate::note::Note;

@@ -1,3 +1,4 @@
+pub mod Noted
 pub mod Numbers
 pub mod Outcomes
 pub mod Planned

@@ -19,7 +19,7 @@ pub struct Asked {
     pub word: u64,
 }
 
-// What is asked, and which blocks are refused meanwhile: the getting with this number, and every one while `room` blocks are held; 0: none.
+// What is asked, and which blocks are refused meanwhile: the getting with this number, and every one while `room` blocks are held; 0: none. Numbers, since C passes them and has no Option.
 #[repr(C)]
 #[derive(Clone, Copy, Default)]
 pub struct Call {

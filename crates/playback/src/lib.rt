@@ -13,6 +13,7 @@ mod plan;
 mod planned;
 mod play;
 mod player;
+mod tag;
 
 pub use call::{Asked, Call, UnknownCode};
 use code::CODES;

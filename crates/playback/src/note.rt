@@ -4,10 +4,11 @@ ghost use Rattle.playback.specs.Numbers.{answer_of};
 ghost use Rattle.playback.specs.Played.{Tells};
 
 use crate::call::Asked;
+use crate::tag;
 use things::{Answer, Op};
 
-// The answer: 0 done, 1 the word `a`, 2 the pair `a` and `b`, 3 turned away by the number `reason`, 4 full.
-// With it whether a block was refused meanwhile (1), and how many were held then.
+// The answer: `tag` is one of tag.rt; WORD has the word `a`, PAIR the pair `a` and `b`, NO was turned away by the number `reason`.
+// With it whether a block was refused meanwhile (1; else 0), and how many were held then. Numbers, since C reads them.
 #[repr(C)]
 #[derive(Clone, Copy, Default)]
 pub struct Reply {
@@ -24,25 +25,28 @@ impl From<Answer> for Reply {
 
     fn from(a: Answer) -> Reply {
         match a {
-            Answer::Done => Reply::default(),
+            Answer::Done => Reply {
+                tag: tag::DONE,
+                ..Reply::default()
+            },
             Answer::Word(x) => Reply {
-                tag: 1,
+                tag: tag::WORD,
                 a: x,
                 ..Reply::default()
             },
             Answer::Pair(k, x) => Reply {
-                tag: 2,
+                tag: tag::PAIR,
                 a: k,
                 b: x,
                 ..Reply::default()
             },
             Answer::No(k) => Reply {
-                tag: 3,
+                tag: tag::NO,
                 reason: k,
                 ..Reply::default()
             },
             Answer::Full => Reply {
-                tag: 4,
+                tag: tag::FULL,
                 ..Reply::default()
             },
         }

@@ -2,7 +2,7 @@
 ghost use Rattle.std.specs.Prelude.{◌≡◌, if◌then◌else◌};
 ghost use Rattle.playback.specs.Outcomes.{number_of};
 
-// How many calls have their replies.
+// Whether it was played, and how many calls have their replies. Numbers, since C reads them and has no Result.
 #[repr(C)]
 #[derive(Clone, Copy)]
 pub struct Outcome {
@@ -22,19 +22,19 @@ pub(crate) enum Refused {
 
 // All calls were made: whether all is over and nothing is held, and how many have their replies.
 #[derive(Clone, Copy)]
-pub(crate) struct Played {
+pub(crate) struct Run {
     pub(crate) over: bool,
     pub(crate) told: usize,
 }
 
-impl From<Played> for Outcome {
-    ghost from_gives = { λ p o. o ≡ record { refused = 0; over = (if p.over then 1 else 0); told = p.told } };
+impl From<Run> for Outcome {
+    ghost from_gives = { λ run o. o ≡ record { refused = 0; over = (if run.over then 1 else 0); told = run.told } };
 
-    fn from(played: Played) -> Outcome {
+    fn from(run: Run) -> Outcome {
         Outcome {
             refused: 0,
-            over: u32::from(played.over),
-            told: played.told as u64,
+            over: u32::from(run.over),
+            told: run.told as u64,
         }
     }
 }

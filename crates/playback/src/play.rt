@@ -5,7 +5,7 @@ ghost use Rattle.playback.specs.Played.{Answered};
 use crate::call::Call;
 use crate::note::{Note, Reply};
 use crate::notes::Notes;
-use crate::outcome::Played;
+use crate::outcome::Run;
 use crate::planned::Planned;
 use crate::player::Player;
 use things::{Blocks, Bounds, Users, times};
@@ -19,7 +19,7 @@ pub(crate) fn play<B: Blocks + Bounds + Drop>(
     draft: &mut [Note],
     replies: &mut [Reply],
     asks: &mut [u64],
-) -> Played
+) -> Run
     requires { AtStart (B.Blocks.as_ground blocks) }
     ensures { Answered result.told calls.now replies.new }
 {
@@ -30,7 +30,7 @@ pub(crate) fn play<B: Blocks + Bounds + Drop>(
         done: false,
     };
     times(&mut ground, &mut player, calls.len() as u64);
-    Played {
+    Run {
         over: player.done,
         told: player.deliver(calls, replies),
     }

@@ -13,7 +13,7 @@ pub struct Player<'c, 'a> {
     pub(crate) calls: &'c [Call],
     pub(crate) notes: Notes<'a>,
     pub(crate) done: bool,
-    ghost honest: { AllHonest (asks_in notes.lent.now) (replies_in notes.lent.now) notes.count },
+    ghost honest: { AllHonest (asks_in notes.written) (replies_in notes.written) (length notes.written) },
 }
 
 impl<'c, 'a> Player<'c, 'a> {
@@ -53,9 +53,9 @@ fn copy_out(notes: &[Note], out: &mut [Reply])
 }
 
 impl<'c, 'a> Users for Player<'c, 'a> {
-    ghost shelf = { λ u. played (asks_in u.notes.lent.now) (replies_in u.notes.lent.now) u.notes.count };
+    ghost shelf = { λ u. played (asks_in u.notes.written) (replies_in u.notes.written) (length u.notes.written) };
 
-    ghost room = { λ u. length u.notes.lent.now - u.notes.count };
+    ghost room = { λ u. u.notes.room };
 
     // Nothing is asked when there is no more room for notes.
     fn next(&mut self) -> Option<Op> {

@@ -54,7 +54,7 @@ impl<G: Blocks> Session<G> {
         ensures ground { result.1 ≡ self.ground }
         ensures ready { Ready result.0 (G.Blocks.as_ground result.1) }
     {
-        let Session { things, ground } = self;
+        let Self { things, ground } = self;
         (things, ground)
     }
 

@@ -1,4 +1,4 @@
-use Rattle.std.proofs.Common.{◌≡◌, ℕ, ◌+◌, ◌*◌, ◌≤◌, ◌++◌, take, drop, length, List, ap, sym, refl, ◌∙◌, subst, arith}
+use Rattle.std.proofs.Common.{◌≡◌, ℕ, ◌*◌, ◌≤◌, ◌++◌, take, drop, length, List, ap, sym, refl, ◌∙◌, subst, arith}
 use Rattle.store.specs.Memory.{wrote}
 use Rattle.tree.proofs.Imaging.{words_of, paste_front, writing_image}
 use Rattle.tree.proofs.pages.write_page.Goals as goal

@@ -4,7 +4,7 @@
 ghost use Rattle.std.specs.Iterator.{IsFinite};
 ghost use Rattle.things.specs.Ground.{AtStart};
 
-use console::{ASKS, Session};
+use console::{ASKS, Engine};
 use lent::{BLOCK_WORDS, Lent};
 use ration::Ration;
 use std::io;
@@ -23,14 +23,14 @@ const LENGTH: u64 = 10000;
 const ROW: u32 = 6;
 
 // One call, and how often it asked.
-fn asks_of<B: Blocks + Bounds>(session: &mut Session<Ration<B>>, o: Op) -> u64 {
-    let _a = session.ask(o);
-    ASKS.saturating_sub(session.ground().asks_left())
+fn asks_of<B: Blocks + Bounds>(engine: &mut Engine<Ration<B>>, o: Op) -> u64 {
+    let _a = engine.ask(o);
+    ASKS.saturating_sub(engine.ground().asks_left())
 }
 
 // Call after call, each noted.
 fn asks_of_all<B: Blocks + Bounds, I: Iterator<Item = Op> + Drop>(
-    session: &mut Session<Ration<B>>,
+    engine: &mut Engine<Ration<B>>,
     calls: I,
 ) -> Tally
     requires can { I.can_next calls }
@@ -38,30 +38,30 @@ fn asks_of_all<B: Blocks + Bounds, I: Iterator<Item = Op> + Drop>(
 {
     let mut tally = Tally::default();
     for o in calls {
-        tally.note(asks_of(session, o));
+        tally.note(asks_of(engine, o));
     }
     tally
 }
 
 // Each second of the words from the middle on, which is the next place each time, then of those before it, then what is left.
-fn deletes<B: Blocks + Bounds>(session: &mut Session<Ration<B>>) -> Tally {
+fn deletes<B: Blocks + Bounds>(engine: &mut Engine<Ration<B>>) -> Tally {
     let middle = LENGTH / 2..LENGTH / 2 + LENGTH / 4;
     let front = 0..LENGTH / 4;
     let rest = (0..LENGTH / 2).map(|_| 0);
     let places = middle.chain(front).chain(rest);
-    asks_of_all(session, places.map(|place| Op::Delete(ROW, place)))
+    asks_of_all(engine, places.map(|place| Op::Delete(ROW, place)))
 }
 
 fn measure<B: Blocks + Bounds + Drop>(rt: &HostRuntime, blocks: B) -> io::Result<()>
     requires { AtStart (B.Blocks.as_ground blocks) }
 {
-    let mut session = Session::open(Ration::over(blocks));
-    let row = asks_of(&mut session, Op::Row(ROW));
-    let insert = asks_of_all(&mut session, (0..LENGTH).map(|x| Op::Insert(ROW, 0, x)));
-    let at = asks_of(&mut session, Op::At(ROW, LENGTH / 2));
-    let set = asks_of(&mut session, Op::Set(ROW, LENGTH / 2, 7));
-    let delete = deletes(&mut session);
-    let _ground = session.close();
+    let mut engine = Engine::open(Ration::over(blocks));
+    let row = asks_of(&mut engine, Op::Row(ROW));
+    let insert = asks_of_all(&mut engine, (0..LENGTH).map(|x| Op::Insert(ROW, 0, x)));
+    let at = asks_of(&mut engine, Op::At(ROW, LENGTH / 2));
+    let set = asks_of(&mut engine, Op::Set(ROW, LENGTH / 2, 7));
+    let delete = deletes(&mut engine);
+    let _ground = engine.close();
     println!(rt; "row {row}")?;
     println!(rt; "insert {insert}")?;
     println!(rt; "at {at}, set {set}")?;

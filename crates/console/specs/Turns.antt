@@ -15,7 +15,7 @@ use Rattle.script.specs.declared.line.Line.TheVariants as line
 use Rattle.script.specs.declared.reply.Reply.{Reply}
 use Rattle.script.specs.declared.reply.Reply.TheVariants as reply
 
--- a session, as contracts see it
+-- a engine, as contracts see it
 pub record State (G : Type 0) : Type 0 where
   pub things : Things
   pub ground : G

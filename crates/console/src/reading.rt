@@ -2,7 +2,7 @@
 ghost use Rattle.std.specs.Prelude.{◌≡◌};
 ghost use Rattle.things.specs.Ground.{AtStart};
 
-use crate::session::Session;
+use crate::engine::Engine;
 use ration::Ration;
 use std::io;
 use std::io::{BufRead, BufReader, Write};
@@ -14,7 +14,7 @@ const LINE: usize = 128;
 // Replies of so many bytes are written, whether more lines are at hand or not.
 const REPLIES: usize = 4096;
 
-impl<B: Blocks + Bounds> Session<Ration<B>> {
+impl<B: Blocks + Bounds> Engine<Ration<B>> {
     // Replies go out together, but none is kept back while the next line is waited for. What memory this needs is had at the start.
     pub fn run(&mut self, rt: &HostRuntime) -> io::Result<()> {
         let mut input = BufReader::new(rt.alloc(), rt.stdin())?;
@@ -44,7 +44,7 @@ pub fn play<B: Blocks + Bounds>(rt: &HostRuntime, blocks: B) -> (B, io::Result<(
     requires { AtStart (B.Blocks.as_ground blocks) }
     ensures { (B.Blocks.as_ground result.0).many ≡ 0 }
 {
-    let mut session = Session::open(Ration::over(blocks));
-    let ran = session.run(rt);
-    (session.close().into_inner(), ran)
+    let mut engine = Engine::open(Ration::over(blocks));
+    let ran = engine.run(rt);
+    (engine.close().into_inner(), ran)
 }

@@ -3,12 +3,12 @@ ghost use Rattle.std.specs.Prelude.{◌≡◌};
 ghost use Rattle.script.specs.Lines.{line_of};
 ghost use Rattle.console.specs.Turns.{Replied};
 
-use crate::session::Session;
+use crate::engine::Engine;
 use ration::Ration;
 use script::{Line, NotALine, Reply};
 use things::{Blocks, Bounds};
 
-impl<B: Blocks + Bounds> Session<Ration<B>> {
+impl<B: Blocks + Bounds> Engine<Ration<B>> {
     // What a line comes to. `number` is the line's, counted from 1.
     pub fn reply(&mut self, text: &[u8], number: u64) -> Option<Reply>
         ensures replied { Replied B.Blocks.as_ground (line_of text.now) number self.old result self.new }

@@ -10,12 +10,12 @@ use std::marker::Model;
 use things::{Answer, Blocks, Bounds, Op, Things};
 
 // It can't be let go, only closed.
-pub struct Session<G: Blocks> {
+pub struct Engine<G: Blocks> {
     pub(crate) things: Things,
     pub(crate) ground: G,
 }
 
-impl<G: Blocks> Model for Session<G> {
+impl<G: Blocks> Model for Engine<G> {
     ghost use Rattle.console.specs.Turns.{State, Ready};
 
     ghost Value = { State G };
@@ -25,27 +25,27 @@ impl<G: Blocks> Model for Session<G> {
     ghost invariant = { λ s. Ready s.things (G.Blocks.as_ground s.ground) };
 }
 
-impl<G: Blocks> Session<G> {
+impl<G: Blocks> Engine<G> {
     // On a ground of which nothing is held.
-    pub fn open(ground: G) -> Session<G>
+    pub fn open(ground: G) -> Engine<G>
         requires { AtStart (G.Blocks.as_ground ground) }
         ensures ready { Ready result.things (G.Blocks.as_ground result.ground) }
         ensures empty { shelf_of result.things (G.Blocks.as_ground result.ground).block ≡ empty }
         ensures ground { result.ground ≡ ground }
     {
-        Session {
+        Engine {
             things: Things::new(),
             ground,
         }
     }
 
     // Of things and a ground that fit.
-    pub fn of(things: Things, ground: G) -> Session<G>
+    pub fn of(things: Things, ground: G) -> Engine<G>
         requires { Ready things (G.Blocks.as_ground ground) }
         ensures things { result.things ≡ things }
         ensures ground { result.ground ≡ ground }
     {
-        Session { things, ground }
+        Engine { things, ground }
     }
 
     // The things and their ground, which still fit.
@@ -66,7 +66,7 @@ impl<G: Blocks> Session<G> {
     }
 }
 
-impl<G: Blocks + Bounds> Session<G> {
+impl<G: Blocks + Bounds> Engine<G> {
     // A call is served, with as many askings and blocks as it may have.
     pub fn ask(&mut self, o: Op) -> Answer
         ensures told { Told o self.old.things (G.Blocks.as_ground self.old.ground) result self.new.things (G.Blocks.as_ground self.new.ground) }
@@ -86,7 +86,7 @@ impl<G: Blocks + Bounds> Session<G> {
     pub fn close(self) -> G
         ensures { (G.Blocks.as_ground result).many ≡ 0 }
     {
-        let Session { things, mut ground } = self;
+        let Engine { things, mut ground } = self;
         let many = ground.many();
         ground.allow(ASKS + ASKS_A_BLOCK * many, many);
         things.close(&mut ground);

@@ -1,7 +1,8 @@
 // A heap is blocks, and keeps the bounds that are set for whoever asks.
 ghost use Rattle.std.specs.Prelude.{◌≡◌, ◌<◌, length, replicate, IfNone, IfSome};
 ghost use Rattle.heap.specs.Sizes.{block_words, block_count};
-ghost use Rattle.heap.specs.State.{state_ground, block_at, with_block};
+ghost use Rattle.heap.specs.Owned.{ground_of};
+ghost use Rattle.heap.specs.State.{block_at, with_block};
 
 use crate::{BLOCKS, Heap, WORDS};
 use things::{Blocks, Bounds};
@@ -23,7 +24,7 @@ impl Heap {
 }
 
 impl Blocks for Heap {
-    ghost as_ground = { state_ground };
+    ghost as_ground = { λ h. ground_of h.words h.left h.top h.failed };
 
     fn obtain(&mut self) -> Option<u32> {
         self.left -= 1;

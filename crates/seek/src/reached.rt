@@ -2,7 +2,7 @@
 use tree::path::Path;
 
 // A leaf, the path to it, a place in it, and how many pages in a row from the leaf upward are full.
-#[derive(Drop)]
+#[derive(Clone, Copy)]
 pub struct Reached {
     pub path: Path,
     pub leaf: u32,

@@ -19,3 +19,4 @@ pub mod Keys
 pub mod Laws
 pub mod Pages
 pub mod Trees
+pub mod Branches

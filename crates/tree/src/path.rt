@@ -1,9 +1,7 @@
 // The way down a tree: which child was taken in each node from the root on. Clauses see the nodes as a list, the lowest first.
-ghost use Rattle.std.specs.Prelude.{◌≡◌, ◌<◌, ◌≤◌, List, [], ◌∷◌, length, reverse, MatchOption};
+ghost use Rattle.std.specs.Prelude.{◌≡◌, ◌<◌, ◌≤◌, [], ◌∷◌, length, MatchOption};
 ghost use Rattle.tree.specs.Sizes.{longest};
-ghost use Rattle.tree.specs.declared.path.Branch.{Branch};
 
-use arrayvec::ArrayVec;
 use std::marker::Model;
 
 // No path has more nodes; specs/Sizes.antt has the same number.
@@ -16,15 +14,28 @@ pub struct Branch {
     pub place: u32,
 }
 
-#[derive(Drop)]
+// The first `count` of the branches are on it, from the root on, and the others are blank. An array and a count, since a path can be copied, and an ArrayVec can't.
+#[derive(Clone, Copy)]
 pub struct Path {
-    branches: ArrayVec<Branch, LONGEST>,
+    branches: [Branch; LONGEST],
+    count: usize,
 }
 
 impl Model for Path {
+    ghost use Rattle.std.specs.Prelude.{◌≡◌, ℕ, ◌-◌, ◌≤◌, List, ◌++◌, length, reverse, take, replicate, slice_index_or};
+    ghost use Rattle.tree.specs.Sizes.{longest};
+    ghost use Rattle.tree.specs.declared.path.Branch.{Branch};
+    ghost use Rattle.tree.specs.Branches.{no_branch, given_back, counted};
+
     ghost Value = { List Branch };
 
-    ghost view = { λ p. reverse p.branches.items };
+    ghost view = { λ p. reverse (take p.count p.branches) };
+
+    ghost invariant = { λ p. (p.count ≤ longest) × ((length p.branches ≡ longest) × ((i : ℕ) → p.count ≤ i → slice_index_or p.branches i no_branch ≡ no_branch)) };
+
+    ghost inverse = { λ ws. record { branches = reverse ws ++ replicate (longest - length ws) no_branch; count = length ws } };
+
+    ghost inverse_ok = { λ p h i. record { branches = given_back p.count p.branches h.0 h.1.0 h.1.1 i; count = counted p.count p.branches h.0 h.1.0 h.1.1 i } };
 }
 
 impl Path {
@@ -32,7 +43,8 @@ impl Path {
         ensures { result ≡ [] }
     {
         Path {
-            branches: ArrayVec::new(),
+            branches: [Branch::default(); LONGEST],
+            count: 0,
         }
     }
 
@@ -40,7 +52,7 @@ impl Path {
         ensures len { result ≡ length self.now }
         ensures few { result ≤ longest }
     {
-        self.branches.len()
+        self.count
     }
 
     // One node further down.
@@ -48,13 +60,15 @@ impl Path {
         requires { length self.old < longest }
         ensures { self.new ≡ branch ∷ self.old }
     {
-        self.branches.push(branch);
+        self.branches[self.count] = branch;
+        self.count += 1;
     }
 
     // The lowest node, which is no longer there then. None: there is no node.
     pub fn pop(&mut self) -> Option<Branch>
         ensures { MatchOption result ((self.old ≡ []) × (self.new ≡ [])) (λ b. self.old ≡ b ∷ self.new) }
     {
-        self.branches.pop()
+        self.count = self.count.checked_sub(1)?;
+        Some(std::mem::take(&mut self.branches[self.count]))
     }
 }

@@ -1,5 +1,6 @@
 -- Two pages whose entries were put together or evened out. Assumes nothing.
 use Rattle.std.specs.Prelude.{◌≡◌, ℕ, ◌+◌, ◌<◌, ◌≤◌, List, ◌++◌, length}
+use Rattle.page.specs.Sizes.{page_limit}
 
 -- one page has them all
 pub record Merged {X : Type 0} (most : ℕ) (all now : List X) : Type 0 where
@@ -12,3 +13,5 @@ pub record Evened {X : Type 0} (most : ℕ) (all left right : List X) : Type 0 w
   pub many : most < length left + length right
   pub not_more : length left ≤ length right
   pub even : length right ≤ length left + 1
+  pub left_few : length left ≤ page_limit
+  pub right_few : length right ≤ page_limit

@@ -2,6 +2,7 @@
 ghost use Rattle.std.specs.Prelude.{◌≡◌, ℕ, ◌+◌, ◌<◌, ◌≤◌, take, slice_index_or, length};
 ghost use Rattle.page.specs.declared.child.Child.{Child};
 ghost use Rattle.page.specs.Layout.{counts};
+ghost use Rattle.page.specs.Sizes.{page_limit};
 
 use crate::kind::Kind;
 use crate::page::Page;
@@ -19,6 +20,7 @@ pub fn find<K: Kind>(page: &Page<K::Node>, at: u64) -> Place
     ensures child { result.child < length page.now }
     ensures before { counts (take result.child page.now) + result.rest ≡ at }
     ensures within { (d : Child) → result.rest < (slice_index_or page.now result.child d).count }
+    ensures few { length page.now ≤ page_limit }
 {
     let mut rest = at;
     for child in 0..page.len() {
@@ -39,7 +41,9 @@ pub fn find_gap<K: Kind>(page: &Page<K::Node>, at: u64) -> Place
     ensures before { counts (take result.child page.now) + result.rest ≡ at }
     ensures within { (d : Child) → result.rest ≤ (slice_index_or page.now result.child d).count }
     ensures first { 0 < result.child → 0 < result.rest }
+    ensures few { length page.now ≤ page_limit }
 {
+    let _few = page.len();
     if at == 0 {
         return Place { child: 0, rest: 0 };
     }

@@ -2,7 +2,7 @@
 ghost use Rattle.std.specs.Prelude.{◌≡◌, ℕ, ◌+◌, ◌*◌, ◌^◌, ◌<◌, ◌≤◌, T, List, ◌++◌, length};
 ghost use Rattle.page.specs.declared.child.Child.{Child};
 ghost use Rattle.page.specs.Layout.{imaged};
-ghost use Rattle.page.specs.Sizes.{block_room};
+ghost use Rattle.page.specs.Sizes.{block_room, page_limit};
 
 use crate::child::Child;
 use crate::codec::Codec;
@@ -35,7 +35,8 @@ pub trait Level {
         requires some { 0 < length page.now }
         requires few { items_under page.now < 2 ^ 64 }
         ensures value { result ≡ entry block page.now }
-        ensures valid { T (Self.Kind.Node.Codec.valid result) };
+        ensures valid { T (Self.Kind.Node.Codec.valid result) }
+        ensures short { length page.now ≤ page_limit };
 
     ghost reads: { (ws : List ℕ) → read ws ≡ imaged Self.Entry.Codec.width Self.Entry.Codec.decode ws };
 

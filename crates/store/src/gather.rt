@@ -1,5 +1,7 @@
 // Blocks got in advance, all or none, and given back.
-ghost use Rattle.std.specs.Prelude.{◌+◌, ◌*◌, ◌≤◌, MatchResult, length};
+ghost use Rattle.std.specs.Prelude.{◌+◌, ◌*◌, ◌<◌, ◌≤◌, MatchResult, length};
+ghost use Rattle.store.specs.Fresh.{Returned};
+ghost use Rattle.store.specs.Memory.{Stored};
 ghost use Rattle.store.specs.Stocked.{Stocked};
 ghost use Rattle.store.specs.Reserve.{capacity, uses, Reserved, Undone, GivenAll};
 
@@ -39,6 +41,16 @@ pub fn give_all<W: Store>(mut rest: Reserve, m: &mut W::Memory)
     ensures { GivenAll (W.Store.memory m.old) rest (W.Store.memory m.new) }
 {
     while let Some(f) = rest.pop() {
-        f.give_back::<W>(m);
+        give_one::<W>(f, m);
     }
+}
+
+// One block goes back.
+fn give_one<W: Store>(f: Fresh, m: &mut W::Memory)
+    requires asks { 0 < (W.Store.memory m.old).left }
+    requires held { 0 < (W.Store.memory m.old).many }
+    requires there { Stored (W.Store.memory m.old).block f.number }
+    ensures { Returned (W.Store.memory m.old) f.number (W.Store.memory m.new) }
+{
+    f.give_back::<W>(m);
 }

@@ -47,10 +47,12 @@ impl Reserve {
         self.numbers.len()
     }
 
+    // That a reserve has at most 16 blocks callers may take as given, since they don't see it.
     pub fn push(&mut self, f: Fresh)
-        requires { length self.old < capacity }
+        requires { length self.old ≤ capacity → length self.old < capacity }
         ensures { self.new ≡ f.number ∷ self.old }
     {
+        let _few = self.len();
         self.numbers.push(f.into_block());
     }
 
@@ -58,14 +60,19 @@ impl Reserve {
         ensures some { IfSome result (λ f. self.old ≡ f.number ∷ self.new) }
         ensures none { IfNone result (self.old ≡ []) }
         ensures empty { IfNone result (self.new ≡ []) }
+        ensures few { length self.new ≤ capacity }
+        ensures lent { length self.old ≤ capacity }
     {
+        let _few = self.len();
         let number = self.numbers.pop()?;
         Some(Fresh::new(number))
     }
 
     pub fn take(&mut self) -> Fresh
         requires { 0 < length self.old }
-        ensures { self.old ≡ result.number ∷ self.new }
+        ensures taken { self.old ≡ result.number ∷ self.new }
+        ensures few { length self.new ≤ capacity }
+        ensures lent { length self.old ≤ capacity }
     {
         self.pop().unwrap()
     }

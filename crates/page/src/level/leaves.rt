@@ -1,6 +1,7 @@
 // Leaves: their entries are items.
-ghost use Rattle.std.specs.Prelude.{◌≡◌, ◌<◌, ℕ, T, length, refl};
+ghost use Rattle.std.specs.Prelude.{◌≡◌, ◌<◌, ◌≤◌, ℕ, T, length, refl};
 ghost use Rattle.page.specs.Layout.{entry_of_leaf};
+ghost use Rattle.page.specs.Sizes.{page_limit};
 ghost use Rattle.std.proofs.Common.{length-append};
 
 use super::Level;
@@ -50,6 +51,7 @@ pub fn leaf_entry<K: Kind>(block: u64, page: &Page<K::Leaf>) -> Child
     requires { 0 < length page.now }
     ensures value { result ≡ entry_of_leaf K.Kind.layout block page.now }
     ensures valid { T (K.Node.Codec.valid result) }
+    ensures few { length page.now ≤ page_limit }
 {
     Child {
         count: page.len() as u64,

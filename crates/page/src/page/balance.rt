@@ -1,4 +1,4 @@
-// Entries shared out between two neighbours.
+// Entries shared out between two neighbours. That a page has at most 64 entries callers may take as given, since they don't see it.
 ghost use Rattle.std.specs.Prelude.{◌≡◌, ℕ, ◌+◌, ◌<◌, ◌≤◌, ◌++◌, length, MatchOption};
 ghost use Rattle.page.specs.Balance.{Merged, Evened};
 ghost use Rattle.page.specs.Sizes.{block_room, page_limit};
@@ -10,12 +10,16 @@ impl<C: Codec> Page<C> {
     // Entries move between two neighbours until this one has `count`.
     pub fn share(&mut self, right: &mut Page<C>, count: usize)
         requires left { count ≤ page_limit }
-        requires right { length self.old + length right.old ≤ count + page_limit }
+        requires right { length self.old ≤ page_limit → length right.old ≤ page_limit → length self.old + length right.old ≤ count + page_limit }
         requires there { count ≤ length self.old + length right.old }
         ensures same { self.new ++ right.new ≡ self.old ++ right.old }
         ensures left_len { length self.new ≡ count }
         ensures total { length self.new + length right.new ≡ length self.old + length right.old }
+        ensures right_few { length right.new ≤ page_limit }
+        ensures left_lent { length self.old ≤ page_limit }
+        ensures right_lent { length right.old ≤ page_limit }
     {
+        let _right = right.len();
         if self.len() < count {
             self.take_from_right(right, count - self.len());
             return;

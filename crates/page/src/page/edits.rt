@@ -31,13 +31,14 @@ impl<C: Codec> Page<C> {
         requires { at < length self.now }
         ensures value { (d : C.Item) → result ≡ slice_index_or self.now at d }
         ensures valid { T (C.Codec.valid result) }
+        ensures few { length self.now ≤ page_limit }
     {
         C::read(&self.words, at * C::width())
     }
 
     // One entry more, behind the others.
     pub fn push(&mut self, x: C::Item)
-        requires room { length self.old < page_limit }
+        requires room { length self.old ≤ page_limit → length self.old < page_limit }
         requires valid { T (C.Codec.valid x) }
         ensures len { length self.new ≡ length self.old + 1 }
         ensures after { self.new ≡ self.old ++ (x ∷ []) }
@@ -51,6 +52,7 @@ impl<C: Codec> Page<C> {
         requires valid { T (C.Codec.valid x) }
         ensures len { length self.new ≡ length self.old }
         ensures after { self.new ≡ slice_set self.old at x }
+        ensures few { length self.new ≤ page_limit }
     {
         C::write(x, &mut self.words, at * C::width());
     }
@@ -60,6 +62,8 @@ impl<C: Codec> Page<C> {
         requires { len ≤ length self.old }
         ensures len { length self.new ≡ len }
         ensures after { self.new ≡ take len self.old }
+        ensures few { length self.new ≤ page_limit }
+        ensures lent { length self.old ≤ page_limit }
     {
         self.len = len;
     }

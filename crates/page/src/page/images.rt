@@ -1,7 +1,7 @@
 // A page and the words of a block: how many entries there are, a spare word, the entries.
 ghost use Rattle.std.specs.Prelude.{◌≡◌, ℕ, ◌*◌, ◌≤◌, slice_index, slice_set, length};
 ghost use Rattle.page.specs.Layout.{imaged};
-ghost use Rattle.page.specs.Sizes.{block_room};
+ghost use Rattle.page.specs.Sizes.{block_room, page_limit};
 
 use super::Page;
 use crate::codec::Codec;
@@ -28,6 +28,7 @@ impl<C: Codec> Page<C> {
         requires { slice_index image.now 0 * C.Codec.width ≤ block_room }
         ensures len { length result ≡ slice_index image.now 0 }
         ensures after { result ≡ imaged C.Codec.width C.Codec.decode image.now }
+        ensures few { length result ≤ page_limit }
     {
         let mut page = Page::new();
         page.words[0..ROOM].copy_from_slice(&image[HEAD..BLOCK]);
@@ -41,6 +42,7 @@ impl<C: Codec> Page<C> {
         ensures len { slice_index image.new 0 ≡ length self.now }
         ensures spare { slice_index image.new 1 ≡ 0 }
         ensures after { imaged C.Codec.width C.Codec.decode image.new ≡ self.now }
+        ensures few { length self.now ≤ page_limit }
     {
         image[HEAD..BLOCK].copy_from_slice(&self.words[0..ROOM]);
         write_head(image, self.len);

@@ -19,4 +19,5 @@ returns g c =
     record {
       value = λ d. rw c.width.ensures at c.read.ensures ∙ rows_get g.C.Codec.width g.C.Codec.decode c.args.at c.self.inside.len c.self.inside.words d (omega arith) ∙ ap (λ xs. get_or xs c.args.at d) c.self.view_is;
       valid = subst (λ x. T (g.C.Codec.valid x)) (sym c.read.ensures) (g.met.C.Codec.made _);
+      few = omega (arith, c.self.invariant);
     }

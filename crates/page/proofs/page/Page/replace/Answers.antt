@@ -24,4 +24,5 @@ returns g c =
     record {
       len = length_rows w g.C.Codec.decode _ _ ∙ omega arith;
       after = rows_set w g.C.Codec.decode c.self.inside.len c.args.at x (g.C.Codec.encode x) c.self.inside.words c.write.new.words (omega arith) (omega arith) (g.met.C.Codec.sized x) (g.met.C.Codec.back x c.requires.valid) e ∙ ap (λ xs. set xs c.args.at x) c.self.view_is;
+      few = omega (arith, c.self.invariant, length_rows w g.C.Codec.decode c.self.inside.len c.write.new.words);
     }

@@ -8,6 +8,9 @@ returns-then-len-count g c =
       same = moved_down c.args.self.now c.args.right.now _ c.take_from_right.ensures.left c.take_from_right.ensures.right;
       left_len = omega arith;
       total = omega arith;
+      right_few = omega arith;
+      left_lent = omega arith;
+      right_lent = omega arith;
     }
 
 pub returns : goal.returns
@@ -16,4 +19,7 @@ returns g c =
       same = moved_up c.args.self.now c.args.right.now _ c.take_from_left.ensures.left c.take_from_left.ensures.right;
       left_len = omega arith;
       total = omega arith;
+      right_few = omega arith;
+      left_lent = omega arith;
+      right_lent = omega arith;
     }

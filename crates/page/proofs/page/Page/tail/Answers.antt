@@ -14,4 +14,5 @@ returns g c =
     record {
       len = omega arith;
       after = rw (c.new-upper.ensures.after, between_to_end c.args.self.now c.args.at c.self.inside.len (omega arith)) at c.extend.ensures.after;
+      few = omega (arith, c.self.invariant);
     }

@@ -14,4 +14,6 @@ returns g c =
     record {
       len = length_rows g.C.Codec.width g.C.Codec.decode _ _;
       after = sym (take_rows g.C.Codec.width g.C.Codec.decode c.args.len c.self.inside.len c.self.inside.words (omega (arith, c.requires))) ∙ ap (take c.args.len) c.self.view_is;
+      few = omega (arith, c.requires, c.self.invariant, length_rows g.C.Codec.width g.C.Codec.decode c.args.len c.self.inside.words);
+      lent = omega (arith, c.self.invariant);
     }

@@ -8,4 +8,5 @@ mod turns;
 
 pub use engine::Engine;
 pub use limits::ASKS;
-pub use reading::play;
+pub use reading::{play, run};
+pub use turns::{ask, close, open, reply};

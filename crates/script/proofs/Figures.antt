@@ -4,6 +4,7 @@ use Rattle.std.specs.Result.{result_ok}
 use Rattle.std.specs.Str.Parse.{digits_value, ParsesUnsigned}
 use Rattle.std.specs.Str.{all_ascii_digits}
 use Rattle.std.proofs.lemmas.Str.Parse.{IsNumeralModel, numerals_by_value, tells_all_ascii_digits, parse_plain, not_in_digits}
+use Rattle.script.specs.Reads.{Reads}
 use Rattle.script.specs.Lines.{words, number, numbers, both, meant}
 use Rattle.script.proofs.Cuts.{Whole, words_one, joined, joined_words}
 
@@ -20,11 +21,15 @@ refused true false n h = refl
 refused false s n h = refl
 
 -- with no sign before it, what `parse` reads is the number
-pub parsed : {E : Type 0} (bs : List ℕ) (r : Result ℕ E) → (get_or bs 0 0 ≡ 43 → ⊥) → ParsesUnsigned 64 10 bs r → result_ok r ≡ number bs
+parsed : {E : Type 0} (bs : List ℕ) (r : Result ℕ E) → (get_or bs 0 0 ≡ 43 → ⊥) → ParsesUnsigned 64 10 bs r → result_ok r ≡ number bs
 parsed {E} bs (Ok x) n h = let k = parse_plain own {E = E} 64 bs (Ok x) h n in rw (k.1, number_of bs k.0.0 k.0.1 k.0.2)
 parsed [] (Err e) n h = refl
 parsed (c ∷ cs) (Err e) n h =
     refused (all_ascii_digits (c ∷ cs)) (ltb (digits_value 10 (c ∷ cs)) (2 ^ 64)) (digits_value 10 (c ∷ cs)) (λ d s. parse_plain own 64 (c ∷ cs) (Err e) h n (d, omega arith, ltb-true _ _ s))
+
+pub signless : (bs : List ℕ) (r : Option ℕ) → (get_or bs 0 0 ≡ 43 → ⊥) → Reads bs r → r ≡ number bs
+signless bs (Some x) n h = parsed {E = ℕ} bs (Ok x) n h
+signless bs None n h = parsed {E = ℕ} bs (Err 0) n h
 
 pub digits_whole : (bs : List ℕ) → all_ascii_digits bs ≡ true → Whole bs
 digits_whole bs d = not_in_digits own bs 32 d (λ h. omega arith)

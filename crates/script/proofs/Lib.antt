@@ -1,4 +1,5 @@
 pub mod Cuts
+pub mod Tables
 pub mod Figures
 pub mod Texts
 pub mod Returns

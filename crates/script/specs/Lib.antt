@@ -1,3 +1,4 @@
 pub mod Lines
+pub mod Reads
 pub mod Replies
 pub mod Back

@@ -2,6 +2,7 @@
 ghost use Rattle.std.specs.Prelude.{◌≡◌, [], ◌∷◌, MatchOption};
 ghost use Rattle.std.specs.Result.{result_ok};
 ghost use Rattle.script.specs.Lines.{words, number, line_of};
+ghost use Rattle.script.specs.Reads.{Reads};
 
 use crate::line::{Line, NotALine};
 use crate::table::asked;
@@ -14,6 +15,13 @@ fn cut(text: &str) -> Option<(&str, &str)>
     text.split_once(' ')
 }
 
+// A number, which may have a plus sign before it; none that is too large.
+fn signed(text: &str) -> Option<u64>
+    ensures { Reads text.now result }
+{
+    text.parse().ok()
+}
+
 // A number: digits alone, with no sign.
 fn number(text: &str) -> Option<u64>
     ensures { result ≡ number text.now }
@@ -21,7 +29,7 @@ fn number(text: &str) -> Option<u64>
     if text.starts_with('+') {
         return None;
     }
-    text.parse().ok()
+    signed(text)
 }
 
 #[tactic(auto, using(crate::proofs::Figures::as_one))]

@@ -62,8 +62,8 @@ all_apart zero = tt
 all_apart (suc n) = let i = is_free-down_from n n in pushed_apart n n (down_from n) (grind (arith, nat_tests)) (all_apart n)
 
 -- what is cut to the length of the shorter is as long
-pub cut_alike : {X Y : Type 0} (xs : List X) (ys : List Y) (most j k : ℕ) → j ≡ min (length xs) (length ys) → k ≡ min j most → length (take k ys) ≡ length (take k xs)
-cut_alike xs ys most j k p q = simp length-take (grind (arith, p, q))
+pub cut_alike : {X Y : Type 0} (xs : List X) (ys : List Y) (most k : ℕ) → k ≡ min (length xs) (min (length ys) most) → length (take k ys) ≡ length (take k xs)
+cut_alike xs ys most k e = simp length-take (grind (arith, e))
 
 -- chunks are whole
 pub whole_chunks : (n k : ℕ) (xs : List ℕ) → k * n ≤ length xs → All (λ ws. length ws ≡ n) (first_chunks n k xs)

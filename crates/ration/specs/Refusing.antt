@@ -80,12 +80,6 @@ pub record Decided {B : Type 0} (as_ground : B → Ground) (s : Ration B) (r : B
   pub below : as_ground s'.inner ≡ as_ground s.inner
   pub same : s' ≡ record s { inner = s'.inner; due = due_next s.due }
 
--- a getting, as the ground below sees it: refused, with that untouched, or what that one gives
-pub record Asked {B : Type 0} (as_ground : B → Ground) (s : Ration B) (r : Option ℕ) (s' : Ration B) : Type 0 where
-  pub refused : is_refused as_ground s ≡ true → (r ≡ None) × (as_ground s'.inner ≡ as_ground s.inner)
-  pub passed : is_refused as_ground s ≡ false → Obtains (allowed 1 s.meter.top (as_ground s.inner)) r (as_ground s'.inner)
-  pub same : s' ≡ record s { inner = s'.inner; due = due_next s.due }
-
 -- a getting: refused, with the ground below untouched, or what that one gives; and it counts
 pub record Rationed {B : Type 0} (as_ground : B → Ground) (s : Ration B) (r : Option ℕ) (s' : Ration B) : Type 0 where
   pub refused : is_refused as_ground s ≡ true → (r ≡ None) × (as_ground s'.inner ≡ as_ground s.inner)

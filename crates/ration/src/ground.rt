@@ -26,9 +26,7 @@ impl<B: Blocks + Bounds> Blocks for Ration<B> {
         ensures obtains { Obtains (ground_of B.Blocks.as_ground self.old) result (ground_of B.Blocks.as_ground self.new) }
         ensures rationed { Rationed B.Blocks.as_ground self.old result self.new }
     {
-        let got = self.ask_below();
-        self.meter.count_obtain(got);
-        got
+        self.ask_below()
     }
 
     fn release(&mut self, b: u32)

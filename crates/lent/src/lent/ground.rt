@@ -1,13 +1,20 @@
 // Lent blocks are a ground.
-ghost use Rattle.std.specs.Prelude.{◌≡◌, ◌<◌, false, length, is_some};
+ghost use Rattle.std.specs.Prelude.{◌≡◌, ◌<◌, false, length, min, is_some};
 ghost use Rattle.things.specs.Ground.{AtStart, Obtains};
-ghost use Rattle.lent.specs.Sizes.{blocks_within};
+ghost use Rattle.lent.specs.Sizes.{most_blocks, blocks_within};
 ghost use Rattle.lent.specs.Lying.{ground_of};
 
 use super::{BLOCK_WORDS, Lent, MOST_BLOCKS};
 use crate::stack::Stack;
 use meter::Meter;
 use things::{Blocks, Bounds};
+
+// As many blocks as there are, with a number for each, but no more than there may be.
+fn fitting(blocks: usize, numbers: usize) -> usize
+    ensures { result ≡ min blocks (min numbers most_blocks) }
+{
+    blocks.min(numbers.min(MOST_BLOCKS))
+}
 
 impl<'a> Lent<'a> {
     // As many blocks as both have room for, of which none is held.
@@ -16,7 +23,7 @@ impl<'a> Lent<'a> {
         ensures size { length result.blocks.now ≡ blocks_within (length words.old) (length free.old) }
     {
         let (blocks, _rest) = words.as_chunks_mut::<BLOCK_WORDS>();
-        let size = blocks.len().min(free.len()).min(MOST_BLOCKS);
+        let size = fitting(blocks.len(), free.len());
         Lent {
             blocks: &mut blocks[..size],
             free: Stack::full(&mut free[..size]),

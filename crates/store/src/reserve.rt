@@ -47,10 +47,11 @@ impl Reserve {
         self.numbers.len()
     }
 
-    // That a reserve has at most 16 blocks callers may take as given, since they don't see it.
+    // That a reserve has at most 16 blocks callers may take as given, since they don't see it; here `len` tells it to the proof.
     pub fn push(&mut self, f: Fresh)
         requires { length self.old ≤ capacity → length self.old < capacity }
-        ensures { self.new ≡ f.number ∷ self.old }
+        ensures pushed { self.new ≡ f.number ∷ self.old }
+        ensures few { length self.new ≤ capacity }
     {
         let _few = self.len();
         self.numbers.push(f.into_block());

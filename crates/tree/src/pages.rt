@@ -1,7 +1,7 @@
 // Pages of a tree, read from blocks and written to them.
 ghost use Rattle.std.specs.Prelude.{◌≡◌, ℕ, ◌+◌, ◌*◌, ◌<◌, ◌≤◌, List, length, slice_index};
 ghost use Rattle.page.specs.Layout.{imaged};
-ghost use Rattle.page.specs.Sizes.{block_room};
+ghost use Rattle.page.specs.Sizes.{block_room, page_limit};
 ghost use Rattle.store.specs.Memory.{Stored};
 ghost use Rattle.tree.specs.Pages.{page_asks, Reading, Writing};
 
@@ -19,6 +19,8 @@ pub fn read_page<C: Codec, W: Store>(m: &mut W::Memory, b: u32) -> Page<C>
     requires there { Stored (W.Store.memory m.old).block b }
     requires fits { slice_index ((W.Store.memory m.old).block b) 0 * C.Codec.width ≤ block_room }
     ensures after { result ≡ imaged C.Codec.width C.Codec.decode ((W.Store.memory m.old).block b) }
+    ensures len { length result ≡ slice_index ((W.Store.memory m.old).block b) 0 }
+    ensures few { length result ≤ page_limit }
     ensures same { Reading page_asks (W.Store.memory m.old) (W.Store.memory m.new) }
 {
     let entries = number_of_entries::<W>(m, b) as u32;
@@ -44,6 +46,8 @@ pub fn load_page<L: Level, W: Store>(m: &mut W::Memory, b: u32) -> Page<L::Entry
     requires there { Stored (W.Store.memory m.old).block b }
     requires few { length (L.Level.read ((W.Store.memory m.old).block b)) ≤ L.Level.most }
     ensures after { result ≡ L.Level.read ((W.Store.memory m.old).block b) }
+    ensures len { length result ≡ slice_index ((W.Store.memory m.old).block b) 0 }
+    ensures few { length result ≤ page_limit }
     ensures same { Reading page_asks (W.Store.memory m.old) (W.Store.memory m.new) }
 {
     read_page::<L::Entry, W>(m, b)

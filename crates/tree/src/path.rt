@@ -55,11 +55,13 @@ impl Path {
         self.count
     }
 
-    // One node further down.
+    // One node further down. That a path has at most 8 nodes callers may take as given, since they don't see it; here `len` tells it to the proof.
     pub fn push(&mut self, branch: Branch)
-        requires { length self.old < longest }
-        ensures { self.new ≡ branch ∷ self.old }
+        requires { length self.old ≤ longest → length self.old < longest }
+        ensures pushed { self.new ≡ branch ∷ self.old }
+        ensures few { length self.new ≤ longest }
     {
+        let _few = self.len();
         self.branches[self.count] = branch;
         self.count += 1;
     }

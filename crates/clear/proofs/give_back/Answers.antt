@@ -23,7 +23,7 @@ next_child-requires g c = record {
 }
 
 pub push-requires : goal.push-requires
-push-requires g c = omega (arith, turn_room c.loop-at.invariant c.in-Some.ensures (low c.requires.lies g.met.K.Kind.wide))
+push-requires g c _ = omega (arith, turn_room c.loop-at.invariant c.in-Some.ensures (low c.requires.lies g.met.K.Kind.wide))
 
 pub go_down-requires-in-Some-next_child : goal.go_down-requires-in-Some-next_child
 go_down-requires-in-Some-next_child g c =
@@ -32,11 +32,11 @@ go_down-requires-in-Some-next_child g c =
 
 pub loop-at-smaller-in-Some-next_child : goal.loop-at-smaller-in-Some-next_child
 loop-at-smaller-in-Some-next_child g c =
-    (next_going c.loop-at.invariant c.in-Some.ensures c.in-Some-next_child.ensures c.push.ensures c.go_down-in-Some-next_child.ensures).1
+    (next_going c.loop-at.invariant c.in-Some.ensures c.in-Some-next_child.ensures c.push.ensures.pushed c.go_down-in-Some-next_child.ensures).1
 
 pub loop-at-preserved-in-Some-next_child : goal.loop-at-preserved-in-Some-next_child
 loop-at-preserved-in-Some-next_child g c =
-    (next_going c.loop-at.invariant c.in-Some.ensures c.in-Some-next_child.ensures c.push.ensures c.go_down-in-Some-next_child.ensures).0
+    (next_going c.loop-at.invariant c.in-Some.ensures c.in-Some-next_child.ensures c.push.ensures.pushed c.go_down-in-Some-next_child.ensures).0
 
 pub release-requires : goal.release-requires
 release-requires g c =

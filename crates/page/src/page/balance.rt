@@ -1,4 +1,4 @@
-// Entries shared out between two neighbours. That a page has at most 64 entries callers may take as given, since they don't see it.
+// Entries shared out between two neighbours. That a page has at most 64 entries callers may take as given, since they don't see it; here a call of `len` tells it to the proof.
 ghost use Rattle.std.specs.Prelude.{◌≡◌, ℕ, ◌+◌, ◌<◌, ◌≤◌, ◌++◌, length, MatchOption};
 ghost use Rattle.page.specs.Balance.{Merged, Evened};
 ghost use Rattle.page.specs.Sizes.{block_room, page_limit};

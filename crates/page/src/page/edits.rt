@@ -42,6 +42,7 @@ impl<C: Codec> Page<C> {
         requires valid { T (C.Codec.valid x) }
         ensures len { length self.new ≡ length self.old + 1 }
         ensures after { self.new ≡ self.old ++ (x ∷ []) }
+        ensures few { length self.new ≤ page_limit }
     {
         C::write(x, &mut self.words, self.len * C::width());
         self.len += 1;

@@ -1,4 +1,4 @@
-// Entries that go from one page to another. That a page has at most 64 entries callers may take as given, since they don't see it.
+// Entries that go from one page to another. That a page has at most 64 entries callers may take as given, since they don't see it; here a call of `len` tells it to the proof.
 ghost use Rattle.std.specs.Prelude.{◌≡◌, ℕ, ◌+◌, ◌-◌, ◌≤◌, ◌++◌, take, drop, length};
 ghost use Rattle.page.specs.Sizes.{page_limit};
 
@@ -14,6 +14,7 @@ impl<C: Codec> Page<C> {
         ensures right_len { length right.new ≡ length right.old - count }
         ensures left { self.new ≡ self.old ++ take count right.old }
         ensures right { right.new ≡ drop count right.old }
+        ensures left_few { length self.new ≤ page_limit }
         ensures right_few { length right.new ≤ page_limit }
         ensures right_lent { length right.old ≤ page_limit }
     {
@@ -31,6 +32,7 @@ impl<C: Codec> Page<C> {
         ensures left_len { length left.new ≡ length left.old - count }
         ensures right { self.new ≡ drop (length left.old - count) left.old ++ self.old }
         ensures left { left.new ≡ take (length left.old - count) left.old }
+        ensures right_few { length self.new ≤ page_limit }
         ensures left_few { length left.new ≤ page_limit }
         ensures left_lent { length left.old ≤ page_limit }
     {

@@ -1,4 +1,4 @@
-// Runs of entries that come, go and move within a page. That a page has at most 64 entries callers may take as given, since they don't see it.
+// Runs of entries that come, go and move within a page. That a page has at most 64 entries callers may take as given, since they don't see it; here a call of `len` tells it to the proof.
 ghost use Rattle.std.specs.Prelude.{◌≡◌, ℕ, ◌+◌, ◌-◌, ◌<◌, ◌≤◌, T, List, [], ◌∷◌, ◌++◌, take, drop, slice_index_or, length};
 ghost use Rattle.std.specs.List.{insert, remove, between};
 ghost use Rattle.page.specs.Sizes.{page_limit};
@@ -14,6 +14,7 @@ impl<C: Codec> Page<C> {
         requires fits { length self.old ≤ page_limit → length other.now ≤ page_limit → length self.old + (to - from) ≤ page_limit }
         ensures len { length self.new ≡ length self.old + (to - from) }
         ensures after { self.new ≡ self.old ++ between from to other.now }
+        ensures few { length self.new ≤ page_limit }
         ensures other_few { length other.now ≤ page_limit }
     {
         let _own = self.len();
@@ -28,6 +29,7 @@ impl<C: Codec> Page<C> {
         requires { length self.old ≤ page_limit → length other.now ≤ page_limit → length self.old + length other.now ≤ page_limit }
         ensures len { length self.new ≡ length self.old + length other.now }
         ensures after { self.new ≡ self.old ++ other.now }
+        ensures few { length self.new ≤ page_limit }
     {
         self.extend(other, 0, other.len());
     }
@@ -66,6 +68,7 @@ impl<C: Codec> Page<C> {
         requires valid { T (C.Codec.valid x) }
         ensures len { length self.new ≡ length self.old + 1 + length other.now }
         ensures after { self.new ≡ self.old ++ (x ∷ other.now) }
+        ensures few { length self.new ≤ page_limit }
     {
         let _own = self.len();
         let _other = other.len();
@@ -80,6 +83,7 @@ impl<C: Codec> Page<C> {
         requires valid { T (C.Codec.valid x) }
         ensures len { length self.new ≡ length self.old + 1 }
         ensures after { self.new ≡ insert self.old at x }
+        ensures few { length self.new ≤ page_limit }
     {
         let upper = self.split_off(at);
         self.push_and_append(x, &upper);
@@ -123,6 +127,7 @@ impl<C: Codec> Page<C> {
         requires second_valid { T (C.Codec.valid y) }
         ensures len { length self.new ≡ length self.old + 1 }
         ensures after { self.new ≡ take at self.old ++ (x ∷ (y ∷ drop (at + 1) self.old)) }
+        ensures few { length self.new ≤ page_limit }
     {
         self.replace(at, y);
         self.insert(at, x);

@@ -29,7 +29,7 @@ overflow_cast-b g c =
 pub loop-preserved : goal.loop-preserved
 loop-preserved g c =
     let p = c.choose_child-step.ensures.chosen in
-    going_turn _ c.loop.invariant (omega arith) _ p g.met.K.Kind.lawful c.push.ensures (c.run_on-full.ensures ∙ ap₂ (λ (x y : ℕ). run_after c.loop.full x y) p.entries c.node_cap.ensures)
+    going_turn _ c.loop.invariant (omega arith) _ p g.met.K.Kind.lawful c.push.ensures.pushed (c.run_on-full.ensures ∙ ap₂ (λ (x y : ℕ). run_after c.loop.full x y) p.entries c.node_cap.ensures)
     c.choose_child-step.ensures.same (omega arith)
 
 pub number_of_entries-items-requires-clause-there : goal.number_of_entries-items-requires-clause-there

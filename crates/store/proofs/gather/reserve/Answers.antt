@@ -6,7 +6,7 @@ pub loop-init : goal.loop-init
 loop-init g c = rw c.new-got.ensures (reserved_none _)
 
 pub loop-preserved : goal.loop-preserved
-loop-preserved g c = rw c.push.ensures (reserved_more _ _ _ _ _ _ c.loop.invariant c.in-Ok.ensures)
+loop-preserved g c = rw c.push.ensures.pushed (reserved_more _ _ _ _ _ _ c.loop.invariant c.in-Ok.ensures)
 
 pub returns-in-Err : goal.returns-in-Err
 returns-in-Err g c =

@@ -33,6 +33,8 @@ returns g c =
     let t : take (2 + c.number_of_entries-entries.result * g.C.Codec.width) c.load-image.result ≡ take (2 + c.number_of_entries-entries.result * g.C.Codec.width) ws =
     rw (← v) (e ∙ ap (λ m. take c.entry_word.result (m.block c.args.b)) c.number_of_entries-entries.ensures.same) in
     record {
+      len = c.unpack.ensures.len ∙ (same_word _ c.load-image.result _ 0 (omega arith) e ∙ ap (λ m. get_or (m.block c.args.b) 0 0) c.number_of_entries-entries.ensures.same);
+      few = c.unpack.ensures.few;
       after = c.unpack.ensures.after ∙ same_image g.C.Codec.width g.C.Codec.decode c.load-image.result ws c.number_of_entries-entries.result c.number_of_entries-entries.ensures.value t;
       same = reading_two 1 c.entry_word.result _ _ _ _ c.number_of_entries-entries.ensures.same c.load-image.ensures.same (omega (arith, h, v));
     }

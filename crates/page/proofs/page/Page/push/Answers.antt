@@ -1,4 +1,4 @@
-use Rattle.std.proofs.Common.{◌≡◌, ◌∙◌, ap, ◌∷◌, [], ◌++◌, length, refl, zero-add, arith, rules}
+use Rattle.std.proofs.Common.{◌≡◌, ◌+◌, ◌∙◌, ap, ◌∷◌, [], ◌++◌, length, refl, zero-add, arith, rules}
 use Rattle.page.proofs.Images.{length_rows, rows_pushed, entry_fits}
 use Rattle.page.proofs.Pages.{long}
 use Rattle.page.proofs.page.Page.push.Goals as goal
@@ -29,4 +29,5 @@ returns g c =
     record {
       len = length_rows w g.C.Codec.decode _ _ ∙ omega arith;
       after = rows_pushed w g.C.Codec.decode c.self.inside.len 0 x (g.C.Codec.encode x) c.self.inside.words c.write.new.words (omega arith) (g.met.C.Codec.sized x) (g.met.C.Codec.back x c.requires.valid) (rw zero-add e) ∙ ap (λ xs. xs ++ (x ∷ [])) c.self.view_is;
+      few = omega (arith, c.requires.room, length_rows w g.C.Codec.decode (c.self.inside.len + 1) c.write.new.words);
     }

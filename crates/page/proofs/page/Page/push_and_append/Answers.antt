@@ -4,4 +4,4 @@ use Rattle.page.proofs.page.Page.push_and_append.Goals as goal
 
 pub returns : goal.returns
 returns g c =
-    record { len = omega arith; after = pushed_and_appended c.args.self.now c.args.other.now c.args.x c.push.ensures.after c.append.ensures.after }
+    record { len = omega arith; after = pushed_and_appended c.args.self.now c.args.other.now c.args.x c.push.ensures.after c.append.ensures.after; few = omega arith }

@@ -7,7 +7,7 @@ ghost use Rattle.grow.specs.Asks.{settle_asks};
 ghost use Rattle.grow.specs.Settle.{lower, upper, Parted, Settled};
 
 use crate::taken::take_block;
-use page::level::Level;
+use page::level::{Level, page_entry};
 use page::page::Page;
 use store::Store;
 use store::reserve::Reserve;
@@ -65,13 +65,13 @@ pub fn settle<L: Level, W: Store>(
     if page.len() <= L::most() {
         store_page::<L, W>(m, b, &page);
         return Risen {
-            first: L::entry(b as u64, &page),
+            first: page_entry::<L>(b as u64, &page),
             second: None,
         };
     }
     let upper = split::<L, W>(m, b, &mut page, reserve);
     Risen {
-        first: L::entry(b as u64, &page),
-        second: Some(L::entry(upper.block as u64, &upper.page)),
+        first: page_entry::<L>(b as u64, &page),
+        second: Some(page_entry::<L>(upper.block as u64, &upper.page)),
     }
 }

@@ -35,8 +35,7 @@ pub trait Level {
         requires some { 0 < length page.now }
         requires few { items_under page.now < 2 ^ 64 }
         ensures value { result ≡ entry block page.now }
-        ensures valid { T (Self.Kind.Node.Codec.valid result) }
-        ensures short { length page.now ≤ page_limit };
+        ensures valid { T (Self.Kind.Node.Codec.valid result) };
 
     ghost reads: { (ws : List ℕ) → read ws ≡ imaged Self.Entry.Codec.width Self.Entry.Codec.decode ws };
 
@@ -47,4 +46,16 @@ pub trait Level {
     ghost adds: { (xs ys : List Self.Entry.Item) → items_under (xs ++ ys) ≡ items_under xs + items_under ys };
 
     ghost placed: { (b : ℕ) (xs : List Self.Entry.Item) → (entry b xs).block ≡ b };
+}
+
+// What the node above keeps of a page at `block`, by the page's level; and that the page has at most 64 entries, which no level has to prove.
+pub fn page_entry<L: Level>(block: u64, page: &Page<L::Entry>) -> Child
+    requires some { 0 < length page.now }
+    requires few { L.Level.items_under page.now < 2 ^ 64 }
+    ensures value { result ≡ L.Level.entry block page.now }
+    ensures valid { T (L.Kind.Node.Codec.valid result) }
+    ensures short { length page.now ≤ page_limit }
+{
+    let _few = page.len();
+    L::entry(block, page)
 }

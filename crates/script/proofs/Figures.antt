@@ -21,7 +21,7 @@ refused true false n h = refl
 refused false s n h = refl
 
 -- with no sign before it, what `parse` reads is the number
-parsed : {E : Type 0} (bs : List ℕ) (r : Result ℕ E) → (get_or bs 0 0 ≡ 43 → ⊥) → ParsesUnsigned 64 10 bs r → result_ok r ≡ number bs
+pub parsed : {E : Type 0} (bs : List ℕ) (r : Result ℕ E) → (get_or bs 0 0 ≡ 43 → ⊥) → ParsesUnsigned 64 10 bs r → result_ok r ≡ number bs
 parsed {E} bs (Ok x) n h = let k = parse_plain own {E = E} 64 bs (Ok x) h n in rw (k.1, number_of bs k.0.0 k.0.1 k.0.2)
 parsed [] (Err e) n h = refl
 parsed (c ∷ cs) (Err e) n h =

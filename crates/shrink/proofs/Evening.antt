@@ -1,7 +1,7 @@
 -- Two pages are read and evened out, and one or both are written.
 use Rattle.std.proofs.Common.{◌≡◌, ℕ, ◌+◌, ◌^◌, ◌<◌, ◌≤◌, List, ◌++◌, length, Some, None, Option, IfSome, [], sym, refl, ap, ◌∙◌, subst, arith, MatchOption, length-append}
 use Rattle.page.specs.declared.child.Child.{Child}
-use Rattle.page.specs.Balance.{Merged, Evened}
+use Rattle.page.specs.Balance.{Merged, Evened, EvenedFew, evened}
 use Rattle.store.specs.Memory.{Memory, Stored, released}
 use Rattle.store.specs.Steps.{Mem, Ran, hit}
 use Rattle.store.proofs.Stepping.{at_other}
@@ -15,6 +15,11 @@ use Rattle.shrink.specs.Sharing.{Sharable, InOne, InTwo, Above}
 -- what even_out says: all entries are on the left page, or on both
 abbrev pub EvenOut : {X : Type 0} → ℕ → List X → List X → Option (List X) → Type 0
 EvenOut cap all xs o = MatchOption o (Merged cap all xs) (λ ys. Evened cap all xs ys)
+
+-- that no page has more entries than it may have is not needed here
+pub evened_out : {X : Type 0} (cap : ℕ) (all xs : List X) (o : Option (List X)) → MatchOption o (Merged cap all xs) (λ ys. EvenedFew cap all xs ys) → EvenOut cap all xs o
+evened_out cap all xs None v = v
+evened_out cap all xs (Some ys) v = evened v
 
 module _ {X : Type 0} {read : List ℕ → List X} {cap a b : ℕ} {m : Memory} {under : List X → ℕ} (s : Sharable read cap a b m under) where
   abbrev all : List X

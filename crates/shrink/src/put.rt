@@ -7,7 +7,7 @@ ghost use Rattle.tree.specs.Pages.{page_asks};
 ghost use Rattle.shrink.specs.Putting.{Put};
 
 use page::child::Child;
-use page::level::Level;
+use page::level::{Level, page_entry};
 use page::page::Page;
 use store::Store;
 use tree::pages::store_page;
@@ -33,5 +33,5 @@ pub fn put<L: Level, W: Store>(m: &mut W::Memory, b: u32, page: &Page<L::Entry>)
     if is_low(page.len(), L::most()) {
         return None;
     }
-    Some(L::entry(b as u64, page))
+    Some(page_entry::<L>(b as u64, page))
 }

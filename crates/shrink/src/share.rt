@@ -6,7 +6,7 @@ ghost use Rattle.shrink.specs.Asks.{share_asks};
 ghost use Rattle.shrink.specs.Sharing.{Sharable, Above};
 
 use page::child::Child;
-use page::level::Level;
+use page::level::{Level, page_entry};
 use page::page::Page;
 use store::Store;
 use tree::pages::{load_page, store_page};
@@ -35,7 +35,7 @@ fn keep_or_release<L: Level, W: Store>(
         }
         Some(page) => {
             store_page::<L, W>(m, b, &page);
-            Some(L::entry(b as u64, &page))
+            Some(page_entry::<L>(b as u64, &page))
         }
     }
 }
@@ -52,7 +52,7 @@ pub fn share<L: Level, W: Store>(m: &mut W::Memory, a: u32, b: u32) -> Risen
     let right = load_page::<L, W>(m, b);
     let right = left.even_out(right, L::most());
     store_page::<L, W>(m, a, &left);
-    let first = L::entry(a as u64, &left);
+    let first = page_entry::<L>(a as u64, &left);
     let second = keep_or_release::<L, W>(m, b, right);
     Risen { first, second }
 }

@@ -1,6 +1,6 @@
 // Entries shared out between two neighbours. That a page has at most 64 entries callers may take as given, since they don't see it; here a call of `len` tells it to the proof.
 ghost use Rattle.std.specs.Prelude.{◌≡◌, ℕ, ◌+◌, ◌<◌, ◌≤◌, ◌++◌, length, MatchOption};
-ghost use Rattle.page.specs.Balance.{Merged, Evened};
+ghost use Rattle.page.specs.Balance.{Merged, EvenedFew};
 ghost use Rattle.page.specs.Sizes.{block_room, page_limit};
 
 use super::Page;
@@ -30,7 +30,7 @@ impl<C: Codec> Page<C> {
     // The entries of both come into this page, or else evenly into both: the right one, where there still is one.
     pub fn even_out(&mut self, mut right: Page<C>, cap: usize) -> Option<Page<C>>
         requires { «cap» ≤ block_room }
-        ensures { MatchOption result (Merged «cap» (self.old ++ right) self.new) (λ r. Evened «cap» (self.old ++ right) self.new r) }
+        ensures { MatchOption result (Merged «cap» (self.old ++ right) self.new) (λ r. EvenedFew «cap» (self.old ++ right) self.new r) }
     {
         let total = self.len() + right.len();
         if total <= cap {

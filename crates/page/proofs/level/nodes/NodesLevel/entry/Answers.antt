@@ -22,4 +22,4 @@ loop-i-preserved g c =
 pub returns : goal.returns
 returns g c =
     let all = take_all c.loop-i.i c.args.page.now (omega arith) in
-    record { value = c.loop-i.invariant.0 ∙ ap (entry_of g.K.Kind.layout c.args.block) all; valid = c.loop-i.invariant.1; short = omega arith }
+    record { value = c.loop-i.invariant.0 ∙ ap (entry_of g.K.Kind.layout c.args.block) all; valid = c.loop-i.invariant.1 }

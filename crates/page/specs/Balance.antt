@@ -14,7 +14,7 @@ pub record Evened {X : Type 0} (most : ℕ) (all left right : List X) : Type 0 w
   pub not_more : length left ≤ length right
   pub even : length right ≤ length left + 1
 
--- so they have them, and neither has more than a page may have
+-- the same, and neither has more entries than a page may have
 pub record EvenedFew {X : Type 0} (most : ℕ) (all left right : List X) : Type 0 where
   pub same : left ++ right ≡ all
   pub many : most < length left + length right
@@ -23,6 +23,6 @@ pub record EvenedFew {X : Type 0} (most : ℕ) (all left right : List X) : Type 
   pub left_few : length left ≤ page_limit
   pub right_few : length right ≤ page_limit
 
--- what even_out says with no word on how much a page may have
+-- with that left out
 pub evened : {X : Type 0} {most : ℕ} {all left right : List X} → EvenedFew most all left right → Evened most all left right
 evened v = record { same = v.same; many = v.many; not_more = v.not_more; even = v.even }

@@ -11,6 +11,8 @@ use crate::page::Page;
 
 pub mod leaves;
 pub mod nodes;
+#[cfg(test)]
+mod tests;
 
 pub trait Level {
     type Kind: Kind;

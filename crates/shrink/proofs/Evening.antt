@@ -17,7 +17,7 @@ abbrev pub EvenOut : {X : Type 0} → ℕ → List X → List X → Option (List
 EvenOut cap all xs o = MatchOption o (Merged cap all xs) (λ ys. Evened cap all xs ys)
 
 -- that no page has more entries than it may have is not needed here
-pub evened_out : {X : Type 0} (cap : ℕ) (all xs : List X) (o : Option (List X)) → MatchOption o (Merged cap all xs) (λ ys. EvenedFew cap all xs ys) → EvenOut cap all xs o
+evened_out : {X : Type 0} (cap : ℕ) (all xs : List X) (o : Option (List X)) → MatchOption o (Merged cap all xs) (λ ys. EvenedFew cap all xs ys) → EvenOut cap all xs o
 evened_out cap all xs None v = v
 evened_out cap all xs (Some ys) v = evened v
 
@@ -31,6 +31,10 @@ module _ {X : Type 0} {read : List ℕ → List X} {cap a b : ℕ} {m : Memory} 
       subst (λ (n : ℕ). EvenOut n all xs o) et
       (subst (λ (p : List X). EvenOut top (p ++ read (m.block b)) xs o) el
       (subst (λ (q : List X). EvenOut top (ls ++ q) xs o) (er ∙ ap (λ (x : Memory). read (x.block b)) r.is) v))
+
+  -- the same of all that even_out says of them
+  pub pages_read : {m₁ : Memory} {top : ℕ} {ls rs : List X} → top ≡ cap → ls ≡ read (m.block a) → rs ≡ read (m₁.block b) → Reading page_asks m m₁ → (xs : List X) (o : Option (List X)) → MatchOption o (Merged top (ls ++ rs) xs) (λ ys. EvenedFew top (ls ++ rs) xs ys) → EvenOut cap all xs o
+  pages_read et el er r xs o v = even_read et el er r xs o (evened_out _ _ xs o v)
 
   module _ (xs : List X) where
     pub left_few : (o : Option (List X)) → EvenOut cap all xs o → length xs ≤ cap
